@@ -1,0 +1,4 @@
+pub mod Causes
+pub mod Written
+pub mod Memory
+pub mod Adapters

@@ -1,0 +1,16 @@
+pub mod Options
+pub mod Each
+pub mod Steps
+pub mod Waiting
+pub mod Accepted
+pub mod Times
+pub mod Buckets
+pub mod Reaches
+pub mod Places
+pub mod LegalReplay
+pub mod Sorting
+pub mod Numbering
+pub mod OneWaits
+pub mod SessionTimes
+pub mod Growth
+pub mod LaterCalls

@@ -1,0 +1,4 @@
+pub mod Order
+pub mod Sessions
+pub mod RealTime
+pub mod Tables

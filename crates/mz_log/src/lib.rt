@@ -1,0 +1,8 @@
+//! The log of a coordinator: the alphabet of what happens, and what every log determines.
+//! Promises nothing by code: its definitions (`specs/`) say what is read from a log, and when a log is legal and replays.
+//! Stands on `mz_bag` and `mz_time`; all crates that speak of what a coordinator did stand on it.
+#![tactic(auto)]
+
+mod entry;
+
+pub use entry::{Answered, Entry, PendingRead, Reply};
