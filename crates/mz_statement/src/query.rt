@@ -1,0 +1,132 @@
+//! Selects, and queries of one or more of them.
+ghost use Rattle.std.specs.Prelude.{◌≡◌, ◌<◌, length, IfOk};
+
+use crate::{ColumnNames, Condition, Joins, Reference, SelectItems};
+use std::alloc::{AllocError, Global};
+use std::marker::Model;
+
+/// One select.
+#[derive(Debug, Drop)]
+pub struct Select {
+    /// Whether each row is given once only.
+    pub distinct: bool,
+    /// What it gives, from the left. None stands for `*`, all columns.
+    pub items: Option<SelectItems>,
+    /// The relation behind FROM.
+    pub first: Reference,
+    /// The relations that are joined to it.
+    pub joins: Joins,
+    /// The condition behind WHERE.
+    pub test: Option<Condition>,
+    /// The columns behind GROUP BY, none where there is no GROUP BY.
+    pub group: ColumnNames,
+}
+
+// A copy of the items, where there are some.
+fn copied_some_items(
+    alloc: Global,
+    items: &Option<SelectItems>,
+) -> Result<Option<SelectItems>, AllocError>
+    ensures { IfOk result (λ copy. copy ≡ items.now) }
+{
+    Ok(match items {
+        Some(items) => Some(items.try_copy(alloc)?),
+        None => None,
+    })
+}
+
+// A copy of the condition, where there is one.
+pub(crate) fn copied_condition(
+    alloc: Global,
+    condition: &Option<Condition>,
+) -> Result<Option<Condition>, AllocError>
+    ensures { IfOk result (λ copy. copy ≡ condition.now) }
+{
+    Ok(match condition {
+        Some(condition) => Some(condition.try_copy(alloc)?),
+        None => None,
+    })
+}
+
+impl Select {
+    /// A copy of the select.
+    pub fn try_copy(&self, alloc: Global) -> Result<Select, AllocError>
+        ensures { IfOk result (λ copy. copy ≡ self.now) }
+    {
+        Ok(Select {
+            distinct: self.distinct,
+            items: copied_some_items(alloc, &self.items)?,
+            first: self.first.try_copy(alloc)?,
+            joins: self.joins.try_copy(alloc)?,
+            test: copied_condition(alloc, &self.test)?,
+            group: self.group.try_copy(alloc)?,
+        })
+    }
+}
+
+/// A query: its selects in order, at least one, whose rows it gives together.
+#[derive(Debug, Drop)]
+pub struct Query {
+    selects: Vec<Select>,
+}
+
+impl Model for Query {
+    ghost use Rattle.std.specs.Prelude.{List, ◌<◌, length};
+    ghost use Rattle.mz_statement.specs.declared.query.Select.{Select};
+    ghost use Rattle.mz_statement.specs.contracts.query.Select as the_select;
+    ghost use Rattle.std.specs.Coded.{codes};
+
+    ghost Value = { List Select };
+
+    ghost coded = { Prim.hlevel (codes, the_select.the_row.coded) };
+
+    ghost view = { λ q. q.selects.items };
+
+    ghost invariant = { λ q. 0 < length q.selects.items };
+}
+
+// A copy of the selects.
+fn copied_selects(alloc: Global, selects: &[Select]) -> Result<Vec<Select>, AllocError>
+    ensures { IfOk result (λ copy. copy.items ≡ selects.now) }
+{
+    let mut copy = Vec::with_capacity(alloc, selects.len())?;
+    for select in selects {
+        copy.push(select.try_copy(alloc)?)?;
+    }
+    Ok(copy)
+}
+
+impl Query {
+    /// The query of these selects. Takes no memory.
+    pub fn from_vec(selects: Vec<Select>) -> Query
+        requires { 0 < length selects.items }
+        ensures { result ≡ selects.items }
+    {
+        Query { selects }
+    }
+
+    /// The selects of the query. Takes no memory.
+    pub fn into_vec(self) -> Vec<Select>
+        ensures selects { result.items ≡ self }
+        ensures some { 0 < length self }
+    {
+        self.selects
+    }
+
+    /// The selects, from the first. Takes no memory.
+    pub fn as_slice(&self) -> &[Select]
+        ensures selects { result.now ≡ self.now }
+        ensures some { 0 < length self.now }
+    {
+        self.selects.as_slice()
+    }
+
+    /// A copy of the query.
+    pub fn try_copy(&self, alloc: Global) -> Result<Query, AllocError>
+        ensures { IfOk result (λ copy. copy ≡ self.now) }
+    {
+        Ok(Query {
+            selects: copied_selects(alloc, &self.selects)?,
+        })
+    }
+}
