@@ -126,7 +126,8 @@ impl Script {
     // Takes a piece that came in, and answers the lines that it completes.
     #[tactic(auto, using(crate::proofs::ReadingLemmas::completed_none, crate::proofs::ReadingLemmas::completed_some, crate::proofs::ReadingLemmas::left_none, crate::proofs::ReadingLemmas::left_some, crate::proofs::ReadingLemmas::front_none))]
     fn take<K: Sink>(&mut self, piece: &[u8], sink: &mut K) -> Result<(), Stop>
-        requires { IsSound (state_of self.old.world) (length self.old.waiting.items + length piece.now) }
+        requires { IsSound (state_of self.old.world)
+            (length self.old.waiting.items + length piece.now) }
         ensures state { OnOk result (state_of self.new.world ≡ lines_state (state_of self.old.world)
             (lines_of (completed self.old.waiting.items (whole_lines piece.now)))) }
         ensures waiting { OnOk result (self.new.waiting.items
@@ -160,7 +161,8 @@ impl Script {
     ) -> Result<Option<usize>, Stop>
         requires count { count ≤ longest_input }
         requires piece { length piece.old ≡ longest_input }
-        requires sound { IsSound (state_of self.old.world) (length self.old.waiting.items + longest_input) }
+        requires sound { IsSound (state_of self.old.world)
+            (length self.old.waiting.items + longest_input) }
         ensures next { (left written : Option (List ℕ))
             → IsGoing left (S.left source.old) written (K.written sink.old) (state_of self.old.world) self.old.waiting.items count
             → IsNext left (S.left source.new) written (K.written sink.new)
@@ -242,9 +244,10 @@ fn answer_script<S: Source, K: Sink>(
     script.read_all(&mut piece, source, sink)
 }
 
-// The status, unless the flush at the end fails.
+/// The status, unless the flush at the end fails: then 4.
 pub fn flushed<K: Sink>(status: u8, sink: &mut K) -> u8
-    ensures status { (result ≡ status) ⊎ ((result ≡ 4) × Rose (K.faults sink.old) (K.faults sink.new)) }
+    ensures status { (result ≡ status)
+        ⊎ ((result ≡ 4) × Rose (K.faults sink.old) (K.faults sink.new)) }
     ensures kept { Keeps (K.written sink.old) (K.written sink.new) }
     ensures later { K.faults sink.old ≤ K.faults sink.new }
 {

@@ -16,21 +16,24 @@ pub fn write_unbuilt(text: &mut String, line: u64) -> Result<(), AllocError>
 
 /// A session that isn't opened, since as many as may be were.
 pub fn write_full(text: &mut String, name: &Name, most: usize) -> Result<(), AllocError>
-    ensures { OnOk result (string_bytes text.new ≡ string_bytes text.old ++ full_text name.now most) }
+    ensures { OnOk result
+        (string_bytes text.new ≡ string_bytes text.old ++ full_text name.now most) }
 {
     write!(text, "{name} refused 17: sessions {most}\n")
 }
 
 /// A submission while this call of the session has no reply.
 pub fn write_busy(text: &mut String, name: &Name, call: u64) -> Result<(), AllocError>
-    ensures { OnOk result (string_bytes text.new ≡ string_bytes text.old ++ busy_text name.now call) }
+    ensures { OnOk result
+        (string_bytes text.new ≡ string_bytes text.old ++ busy_text name.now call) }
 {
     write!(text, "{name} refused 10: call {call}\n")
 }
 
 /// A command that waits for a round.
 pub fn write_queued(text: &mut String, name: &Name, call: u64) -> Result<(), AllocError>
-    ensures { OnOk result (string_bytes text.new ≡ string_bytes text.old ++ queued_text name.now call) }
+    ensures { OnOk result
+        (string_bytes text.new ≡ string_bytes text.old ++ queued_text name.now call) }
 {
     write!(text, "{name}#{call} queued\n")
 }

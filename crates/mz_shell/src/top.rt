@@ -13,7 +13,8 @@ const USAGE: &str = "usage: coordinate script | threads N | load SEED SIZE\n";
 
 // Writes the usage line.
 fn refuse<K: Sink>(sink: &mut K) -> u8
-    ensures { IsRefusal (K.written sink.old) (K.written sink.new) (K.faults sink.old) (K.faults sink.new) result }
+    ensures { IsRefusal
+        (K.written sink.old) (K.written sink.new) (K.faults sink.old) (K.faults sink.new) result }
 {
     match write_all(sink, USAGE.as_bytes()) {
         Ok(()) => flushed(REFUSED, sink),

@@ -146,7 +146,8 @@ impl World {
         requires place { place < length self.old.sessions.items }
         requires calls { IsLow (session_at (state_of self.old) place).calls }
         ensures call { result ≡ (session_at (state_of self.old) place).calls + 1 }
-        ensures state { state_of self.new ≡ record (state_of self.old) { sessions = called (state_of self.old) place } }
+        ensures state { state_of self.new
+            ≡ record (state_of self.old) { sessions = called (state_of self.old) place } }
     {
         let call = self.sessions[place].calls + 1;
         self.sessions[place] = Session {
@@ -167,7 +168,8 @@ impl World {
         requires place { place < length self.old.sessions.items }
         requires calls { IsLow (session_at (state_of self.old) place).calls }
         requires peeks { IsLow self.old.peeks }
-        ensures state { OnOk result (state_of self.new ≡ accepted (state_of self.old) place statement) }
+        ensures state { OnOk result
+            (state_of self.new ≡ accepted (state_of self.old) place statement) }
         ensures text { OnOk result (string_bytes text.new
             ≡ string_bytes text.old ++ accepted_text (state_of self.old) name.now place statement) }
     {
@@ -196,7 +198,8 @@ impl World {
         requires place { place < length self.old.sessions.items }
         requires calls { IsLow (session_at (state_of self.old) place).calls }
         requires peeks { IsLow self.old.peeks }
-        ensures state { OnOk result (state_of self.new ≡ said_at (state_of self.old) place statement) }
+        ensures state { OnOk result
+            (state_of self.new ≡ said_at (state_of self.old) place statement) }
         ensures text { OnOk result (string_bytes text.new
             ≡ string_bytes text.old ++ said_text_at (state_of self.old) name.now place statement) }
     {
@@ -234,7 +237,8 @@ impl World {
     fn apply(&mut self, command: Waiting, text: &mut String) -> Result<(), AllocError>
         requires paired { length self.old.sessions.items ≡ length self.old.names.keys }
         requires owned { IsNumberOf (length self.old.names.keys) command.session }
-        ensures state { OnOk result (state_of self.new ≡ applied self.old.time (state_of self.old) command) }
+        ensures state { OnOk result
+            (state_of self.new ≡ applied self.old.time (state_of self.old) command) }
         ensures text { OnOk result (string_bytes text.new ≡ string_bytes text.old ++ inserted_text
             (name_in self.old.names.keys command.session) command.call self.old.time (length command.rows)) }
     {
@@ -248,7 +252,8 @@ impl World {
     // The same of each command, one after another.
     fn apply_all(&mut self, commands: Vec<Waiting>, text: &mut String) -> Result<(), AllocError>
         requires paired { length self.old.sessions.items ≡ length self.old.names.keys }
-        requires owned { AllByRecursion (λ command. IsNumberOf (length self.old.names.keys) command.session) commands.items }
+        requires owned { AllByRecursion
+            (λ command. IsNumberOf (length self.old.names.keys) command.session) commands.items }
         ensures state { OnOk result (state_of self.new
             ≡ all_applied self.old.time (state_of self.old) commands.items) }
         ensures text { OnOk result (string_bytes text.new
@@ -279,7 +284,8 @@ impl World {
     // Where no read waits, takes the later writes into the rows of the table.
     fn keep_up(&mut self) -> Result<(), AllocError>
         requires { HasRoomFor self.old.table.bag (rows_written self.old.table.later.items) }
-        ensures { OnOk result (state_of self.new ≡ kept_up (state_of self.old) self.old.reads.items) }
+        ensures { OnOk result
+            (state_of self.new ≡ kept_up (state_of self.old) self.old.reads.items) }
     {
         if self.reads.is_empty() {
             self.table.advance(self.time)?;
@@ -362,7 +368,8 @@ impl World {
     fn follow(&mut self, says: ScriptLine, text: &mut String) -> Result<(), AllocError>
         requires { IsReady (state_of self.old) }
         ensures state { OnOk result (state_of self.new ≡ after_says (state_of self.old) says) }
-        ensures text { OnOk result (string_bytes text.new ≡ string_bytes text.old ++ says_text (state_of self.old) says) }
+        ensures text { OnOk result (string_bytes text.new
+            ≡ string_bytes text.old ++ says_text (state_of self.old) says) }
     {
         match says {
             ScriptLine::Skipped => Ok(()),
