@@ -1,0 +1,9 @@
+pub mod Complete
+pub mod Digits
+pub mod Normal
+pub mod Parsing
+pub mod Shorter
+pub mod Sound
+pub mod Steps
+pub mod Turns
+pub mod Words

@@ -1,0 +1,4 @@
+pub mod Grammar
+pub mod Joined
+pub mod Reading
+pub mod Token
