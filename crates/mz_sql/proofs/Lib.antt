@@ -1,9 +1,2 @@
-pub mod Complete
-pub mod Digits
-pub mod Normal
-pub mod Parsing
-pub mod Shorter
-pub mod Sound
-pub mod Steps
-pub mod Turns
-pub mod Words
+pub mod FaultLemmas
+pub mod FormLemmas

@@ -1,4 +1,1 @@
-pub mod Grammar
-pub mod Joined
-pub mod Reading
-pub mod Token
+pub mod Form

@@ -1,20 +1,14 @@
-//! The parser of the SQL dialect: a text is read as the statement that it spells.
-//! Promises the one statement of a text by the grammar, or that there is none (`specs/Grammar.antt`).
-//! Stands on `mz_lex` for tokens, on `mz_statement` and `mz_bag` for statements, and on `thiserror`.
+//! SQL: texts are read as statements, and statements are printed as texts.
+//! Promises that a statement that the grammar can spell is read again from its printed text (`read_again`),
+//! and that each text has one printed form, or is refused with its fault (`normalized`), of which it has one at most (`laws`).
+//! Stands on `mz_parse` and `mz_print`, which it hands on, and on `mz_statement` and `mz_bag`.
 #![tactic(auto)]
 
-mod condition;
-mod fault;
-mod key;
+mod form;
 pub mod laws;
-mod parser;
-mod reading;
-mod scan;
-mod select;
-mod statement;
 #[cfg(test)]
 mod tests;
-mod token;
 
-pub use fault::ParseFault;
-pub use parser::parse;
+pub use form::{normalized, read_again};
+pub use mz_parse::{ParseFault, parse};
+pub use mz_print::print;

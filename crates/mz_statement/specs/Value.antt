@@ -1,5 +1,5 @@
 -- Values that the grammar can spell.
-use Rattle.std.specs.Prelude.{ℕ, ◌≢◌, ◌≤◌, ◌<◌, List, length}
+use Rattle.std.specs.Prelude.{ℕ, ◌≢◌, ◌≤◌, ◌<◌, List, length, ℤ, pos, negsuc}
 use Rattle.std.specs.List.{AllByRecursion as Each}
 use Rattle.mz_bag.specs.declared.datum.Datum.{Datum}
 use Rattle.mz_bag.specs.declared.datum.Datum.TheVariants.{Int, Text, Bool, Wide}
@@ -9,9 +9,14 @@ pub record IsText (text : List ℕ) : Type 0 where
   pub short : length text ≤ 1024
   pub line : Each (λ byte. byte ≢ 10) text
 
+-- a number of 32 bits with its sign: from -2147483648, which is negsuc 2147483647, to 2147483647
+abbrev pub IsInt : ℤ → Type 0
+IsInt (pos n) = n ≤ 2147483647
+IsInt (negsuc n) = n ≤ 2147483647
+
 -- an INT, a TEXT or a BOOL
 abbrev pub IsLiteral : Datum → Type 0
-IsLiteral (Int number) = Unit {0}
+IsLiteral (Int number) = IsInt number
 IsLiteral (Text text) = IsText text
 IsLiteral (Bool truth) = Unit {0}
 IsLiteral (Wide number) = ⊥

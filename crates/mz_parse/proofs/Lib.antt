@@ -1,0 +1,13 @@
+pub mod Complete
+pub mod Exact
+pub mod ExactConditions
+pub mod ExactSelects
+pub mod ExactStatements
+pub mod FaultLemmas
+pub mod Normal
+pub mod Parsing
+pub mod PlaceLemmas
+pub mod Shorter
+pub mod Sound
+pub mod Steps
+pub mod Turns

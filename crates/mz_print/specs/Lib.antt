@@ -1,0 +1,4 @@
+pub mod Joined
+pub mod Piece
+pub mod Print
+pub mod Writer
