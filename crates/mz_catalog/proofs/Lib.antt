@@ -1,0 +1,4 @@
+pub mod DependentLemmas
+pub mod ItemLemmas
+pub mod PlaceLemmas
+pub mod StoredLemmas

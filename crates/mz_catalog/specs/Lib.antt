@@ -1,0 +1,3 @@
+pub mod CatalogState
+pub mod Dependents
+pub mod Keyed

@@ -1,0 +1,16 @@
+pub mod BoundedRules
+pub mod Bounds
+pub mod ConditionRules
+pub mod Extremes
+pub mod GroupLaws
+pub mod IndexRules
+pub mod MeaningLaws
+pub mod OperatorLaws
+pub mod PlanMeasure
+pub mod PlanRules
+pub mod Products
+pub mod Weighing
+pub mod RowsRules
+pub mod SmallPlans
+pub mod TypeRules
+pub mod ValueRules

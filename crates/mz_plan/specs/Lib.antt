@@ -1,0 +1,10 @@
+pub mod Aggregate
+pub mod Alike
+pub mod Bound
+pub mod Condition
+pub mod Meaning
+pub mod Operators
+pub mod Refusal
+pub mod Small
+pub mod Typed
+pub mod Value

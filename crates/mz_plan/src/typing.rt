@@ -1,0 +1,187 @@
+//! The columns of a plan.
+ghost use Rattle.std.specs.Prelude.{◌≡◌, ◌++◌, List, true, slice_get, filter_map, IfOk, OnOk};
+ghost use Rattle.mz_bag.specs.Name.{is_name};
+ghost use Rattle.mz_plan.specs.Typed.{aggregate_column, columns_at, item_columns, kind_columns, own_columns, plan_columns, relation_columns, renamed};
+
+use crate::{Aggregate, Item, ItemKind, Plan, Scope};
+use mz_bag::Name;
+use mz_statement::{Column, ColumnType, Columns};
+use std::alloc::{AllocError, Global};
+
+// A copy of the columns of a table or a view. None for an index.
+fn own_columns(alloc: Global, kind: &ItemKind) -> Result<Vec<Column>, AllocError>
+    ensures { IfOk result (λ columns. columns.items ≡ own_columns kind.now) }
+{
+    match kind {
+        ItemKind::Table(columns) => Ok(columns.try_copy(alloc)?.into_vec()),
+        ItemKind::View(columns, _query) => Ok(columns.try_copy(alloc)?.into_vec()),
+        ItemKind::Index(_on, _plan) => Ok(Vec::new(alloc)),
+    }
+}
+
+// A copy of the columns of the table or view with this number.
+fn relation_columns(alloc: Global, items: &[Item], id: u64) -> Result<Vec<Column>, AllocError>
+    ensures { IfOk result (λ columns. columns.items ≡ relation_columns items.now id) }
+{
+    'items: for item in items {
+        if item.id == id {
+            return own_columns(alloc, &item.kind);
+        }
+    }
+    Ok(Vec::new(alloc))
+}
+
+// A copy of the columns of an item of this kind.
+fn kind_columns(alloc: Global, items: &[Item], kind: &ItemKind) -> Result<Vec<Column>, AllocError>
+    ensures { IfOk result (λ columns. columns.items ≡ kind_columns items.now kind.now) }
+{
+    match kind {
+        ItemKind::Table(columns) => Ok(columns.try_copy(alloc)?.into_vec()),
+        ItemKind::View(columns, _query) => Ok(columns.try_copy(alloc)?.into_vec()),
+        ItemKind::Index(on, _plan) => relation_columns(alloc, items, *on),
+    }
+}
+
+// A copy of the columns of the item with this number.
+fn item_columns(alloc: Global, items: &[Item], id: u64) -> Result<Vec<Column>, AllocError>
+    ensures { IfOk result (λ columns. columns.items ≡ item_columns items.now items.now id) }
+{
+    'items: for item in items {
+        if item.id == id {
+            return kind_columns(alloc, items, &item.kind);
+        }
+    }
+    Ok(Vec::new(alloc))
+}
+
+// A copy of the column at a place, where there is one.
+fn column_at(alloc: Global, columns: &[Column], place: u64) -> Result<Option<Column>, AllocError>
+    ensures { IfOk result (λ found. found ≡ slice_get columns.now place) }
+{
+    match columns.get(place as usize) {
+        Some(column) => Ok(Some(column.try_copy(alloc)?)),
+        None => Ok(None),
+    }
+}
+
+// A copy of the columns at these places.
+fn columns_at(alloc: Global, columns: &[Column], places: &[u64]) -> Result<Vec<Column>, AllocError>
+    ensures { IfOk result (λ found. found.items ≡ columns_at places.now columns.now) }
+{
+    let mut found = Vec::new(alloc);
+    'places: for place in places {
+        if let Some(column) = column_at(alloc, columns, *place)? {
+            found.push(column)?;
+        }
+    }
+    Ok(found)
+}
+
+// A column.
+fn column(alloc: Global, name: &[u8], kind: ColumnType) -> Result<Column, AllocError>
+    requires { is_name name.now ≡ true }
+    ensures { IfOk result (λ column. (column.name ≡ name.now) × (column.kind ≡ kind)) }
+{
+    Ok(Column {
+        name: Name::new(alloc, name)?,
+        kind,
+    })
+}
+
+// A column of this name with the type of the one at a place.
+fn renamed(
+    alloc: Global,
+    name: &[u8],
+    columns: &[Column],
+    place: u64,
+) -> Result<Option<Column>, AllocError>
+    requires { is_name name.now ≡ true }
+    ensures { IfOk result (λ found. found ≡ renamed name.now (slice_get columns.now place)) }
+{
+    match columns.get(place as usize) {
+        Some(other) => Ok(Some(column(alloc, name, other.kind)?)),
+        None => Ok(None),
+    }
+}
+
+// The column of an aggregate.
+fn aggregate_column(
+    alloc: Global,
+    columns: &[Column],
+    aggregate: Aggregate,
+) -> Result<Option<Column>, AllocError>
+    ensures { IfOk result (λ found. found ≡ aggregate_column columns.now aggregate) }
+{
+    match aggregate {
+        Aggregate::Count => Ok(Some(column(alloc, "count".as_bytes(), ColumnType::Wide)?)),
+        Aggregate::Sum(_place) => Ok(Some(column(alloc, "sum".as_bytes(), ColumnType::Wide)?)),
+        Aggregate::Min(place) => renamed(alloc, "min".as_bytes(), columns, place),
+        Aggregate::Max(place) => renamed(alloc, "max".as_bytes(), columns, place),
+    }
+}
+
+// Puts columns behind others.
+fn push_all(columns: &mut Vec<Column>, more: Vec<Column>) -> Result<(), AllocError>
+    ensures { OnOk result (columns.new.items ≡ columns.old.items ++ more.items) }
+{
+    'more: for column in more {
+        columns.push(column)?;
+    }
+    Ok(())
+}
+
+// The columns of a group: its keys, and then its aggregates.
+fn group_columns(
+    alloc: Global,
+    columns: &[Column],
+    places: &[u64],
+    aggregates: &[Aggregate],
+) -> Result<Vec<Column>, AllocError>
+    ensures { IfOk result (λ all. all.items ≡ columns_at places.now columns.now
+        ++ filter_map (aggregate_column columns.now) aggregates.now) }
+{
+    let mut all = columns_at(alloc, columns, places)?;
+    'aggregates: for aggregate in aggregates {
+        if let Some(column) = aggregate_column(alloc, columns, *aggregate)? {
+            all.push(column)?;
+        }
+    }
+    Ok(all)
+}
+
+// The columns of a plan over some items.
+#[tactic(auto, using(crate::proofs::TypeRules::column_rules))]
+fn plan_columns(alloc: Global, plan: &Plan, items: &[Item]) -> Result<Vec<Column>, AllocError>
+    ensures { IfOk result (λ columns. columns.items ≡ plan_columns items.now plan.now) }
+{
+    match plan {
+        Plan::Table(id) => item_columns(alloc, items, *id),
+        Plan::Index(id) => item_columns(alloc, items, *id),
+        Plan::Filter(below, _cond) => plan_columns(alloc, below.get(), items),
+        Plan::Project(below, places) => {
+            let columns = plan_columns(alloc, below.get(), items)?;
+            columns_at(alloc, &columns, places.as_slice())
+        }
+        Plan::Join(left, right, _pairs) => {
+            let mut columns = plan_columns(alloc, left.get(), items)?;
+            let more = plan_columns(alloc, right.get(), items)?;
+            push_all(&mut columns, more)?;
+            Ok(columns)
+        }
+        Plan::Union(left, _right) => plan_columns(alloc, left.get(), items),
+        Plan::Group(below, places, aggregates) => {
+            let columns = plan_columns(alloc, below.get(), items)?;
+            group_columns(alloc, &columns, places.as_slice(), aggregates.as_slice())
+        }
+        Plan::Distinct(below) => plan_columns(alloc, below.get(), items),
+    }
+}
+
+/// The columns of a plan in a scope, with their names and types. A place past the columns that it is
+/// used on gives none, and so does an item that isn't in the scope.
+pub fn typed(alloc: Global, plan: &Plan, scope: &Scope) -> Result<Columns, AllocError>
+    ensures { IfOk result (λ columns. columns ≡ plan_columns scope.now.items plan.now) }
+{
+    let columns = plan_columns(alloc, plan, scope.items.as_slice())?;
+    Ok(Columns::from_vec(columns))
+}
