@@ -82,3 +82,24 @@ not-missed id [] place up there parted = true≢false (sym there)
 not-missed id (e ∷ es) place up there parted =
     let at = place-numbered id (e ∷ es) there in
     missed id (e ∷ es) place at.0 e at.1 (at.2 e) (parted (rises id (e ∷ es) up))
+
+-- so there is an item of the number
+pub is-there : (id : ℕ) (es : List (List ℕ × Item)) (place : ℕ) → Ascend (values_of es) → place < length es
+    → HoldsAt (λ e. nat_cmp e.1.id id ≡ Equal) es place → true ≡ is_some (numbered id (values_of es))
+is-there id [] place up within at = absurd (omega arith)
+is-there id (e ∷ es) place up within at =
+    let all = e ∷ es in
+    let some = slice_get-get_or (values_of all) place e.1 (omega (arith, length-values all)) in
+    sym (ap is_some (sym (found-at id all place up within at) ∙ some))
+
+-- what isn't true is false
+not-true : (b : Bool) → (b ≡ true → ⊥) → false ≡ b
+not-true true h = absurd (h refl)
+not-true false h = refl
+
+-- where none is missed, there is none
+pub is-absent : (id : ℕ) (es : List (List ℕ × Item)) (place : ℕ) → Ascend (values_of es)
+    → (IsNonDecreasingBy (λ e. ordering_index (nat_cmp e.1.id id)) es
+    → IsPartitionPoint (λ e. nat_cmp e.1.id id ≡ Less) (λ e. nat_cmp e.1.id id ≡ Greater) es place)
+    → false ≡ is_some (numbered id (values_of es))
+is-absent id es place up parted = not-true _ (λ there. not-missed id es place up there parted)

@@ -1,8 +1,10 @@
 -- What a catalog holds, and how additions and removals change it.
-use Rattle.std.specs.Prelude.{ℕ, refl, ◌+◌, ◌==◌, ◌≡◌, ◌≢◌, ◌<◌, ◌≤◌, ◌⊎◌, List, [], ◌∷◌, ◌++◌, length, Option, None, Some, is_some, not, nat_le, bytes_eq, find, filter, if◌then◌else◌}
+use Rattle.std.specs.Prelude.{ℕ, refl, ◌+◌, ◌==◌, ◌≡◌, ◌≢◌, ◌<◌, ◌≤◌, ◌⊎◌, Bool, false, ◌&&◌, List, [], ◌∷◌, ◌++◌, length, Option, None, Some, is_some, not, nat_le, bytes_eq, find, filter, option_map, if◌then◌else◌}
 use Rattle.std.specs.Coded.{Coded, code_by, coded×, coded_list, coded_ℕ}
 use Rattle.std.specs.List.{All, AllPairs}
 use Rattle.mz_plan.specs.declared.item.Item.{Item}
+use Rattle.mz_plan.specs.declared.item.ItemKind.{ItemKind}
+use Rattle.mz_plan.specs.declared.item.ItemKind.TheVariants.{Index}
 use Rattle.mz_catalog.specs.declared.fault.CatalogFault.{CatalogFault}
 use Rattle.mz_catalog.specs.declared.fault.CatalogFault.TheVariants.{NameTaken, TooMany, Memory}
 
@@ -28,6 +30,15 @@ named name items = find (λ item. bytes_eq name item.name) items
 -- the item of this number, where there is one
 abbrev pub numbered : ℕ → List Item → Option Item
 numbered id items = find (λ item. item.id == id) items
+
+-- what is of this kind is an index on the item of this number
+abbrev pub is_on : ℕ → ItemKind → Bool
+is_on relation (Index on plan) = on == relation
+is_on relation kind = false
+
+-- the number of the oldest index on an item that is in this cluster, where there is one
+abbrev pub oldest_index : List Item → ℕ → ℕ → Option ℕ
+oldest_index items cluster on = option_map (λ item. item.id) (find (λ item. item.cluster == cluster && is_on on item.kind) items)
 
 -- the items are in order of their numbers
 abbrev pub Ascend : List Item → Type 0

@@ -1,3 +1,4 @@
 pub mod CatalogState
 pub mod Dependents
 pub mod Keyed
+pub mod Oldest

@@ -1,10 +1,11 @@
 //! The catalog of items.
-ghost use Rattle.std.specs.Prelude.{◌≡◌, ◌<◌, ◌^◌, [], None, Some, option_map, IfOk, OnOk, IfErr, OnErr, IsSome, IfSome};
-ghost use Rattle.mz_catalog.specs.CatalogState.{empty, named, numbered, with_item, without, refusal, IsCatalog, IsCause};
+ghost use Rattle.std.specs.Prelude.{◌≡◌, ◌<◌, ◌^◌, [], None, Some, option_map, is_some, IfOk, OnOk, IfErr, OnErr, IsSome, IfSome};
+ghost use Rattle.mz_catalog.specs.CatalogState.{empty, named, numbered, oldest_index, with_item, without, refusal, IsCatalog, IsCause};
 ghost use Rattle.mz_catalog.specs.Dependents.{dependents, IsHeldBack};
 
 use crate::CatalogFault;
-use crate::entries::{copied, copied_items, id_of, place_of, put, take_out};
+use crate::entries::{copied, copied_items, id_of, is_there, place_of, put, take_out};
+use crate::oldest::{copied_oldest, index_place, kept_at, make_room, note, renew};
 use indexmap::IndexMap;
 use mz_bag::Name;
 use mz_plan::{CatalogItems, Item, Scope};
@@ -16,6 +17,8 @@ use std::marker::Model;
 pub struct Catalog {
     // Each item under its name, in order of creation.
     items: IndexMap<Name, Item>,
+    // The number of the oldest index on each item in each cluster.
+    oldest: IndexMap<(u64, u64), u64>,
     // The number that the next item gets.
     next: u64,
 }
@@ -23,7 +26,7 @@ pub struct Catalog {
 impl Model for Catalog {
     ghost use Rattle.mz_plan.specs.contracts.item.Item as the_item;
     ghost use Rattle.mz_catalog.specs.CatalogState.{CatalogState, state_code};
-    ghost use Rattle.mz_catalog.specs.Keyed.{state_of, IsStored};
+    ghost use Rattle.mz_catalog.specs.Keyed.{state_of, IsKept};
 
     ghost Value = { CatalogState };
 
@@ -31,7 +34,7 @@ impl Model for Catalog {
 
     ghost view = { λ c. state_of c.items.entries c.next };
 
-    ghost invariant = { λ c. IsStored c.items.entries c.next };
+    ghost invariant = { λ c. IsKept c.items.entries c.oldest.entries c.next };
 }
 
 impl Catalog {
@@ -41,6 +44,7 @@ impl Catalog {
     {
         Catalog {
             items: IndexMap::new(alloc),
+            oldest: IndexMap::new(alloc),
             next: 1,
         }
     }
@@ -57,7 +61,10 @@ impl Catalog {
     {
         let id = self.next;
         item.id = id;
+        let place = index_place(&item);
+        make_room(&mut self.oldest)?;
         put(&mut self.items, item)?;
+        note(&mut self.oldest, place, id);
         self.next = id + 1;
         Ok(id)
     }
@@ -71,7 +78,10 @@ impl Catalog {
         ensures err { OnErr result (self.new ≡ self.old) }
         ensures cause { IfErr result (λ fault. IsHeldBack fault (dependents id self.old.items)) }
     {
-        take_out(&mut self.items, id)
+        let place = index_place(self.item(id));
+        take_out(&mut self.items, id)?;
+        renew(&mut self.oldest, place, &self.items);
+        Ok(())
     }
 
     /// The number of the item of this name, None where there is none. Takes no memory. O(1) expected.
@@ -81,6 +91,13 @@ impl Catalog {
         ensures catalog { IsCatalog self.now }
     {
         id_of(&self.items, name)
+    }
+
+    /// Whether there is an item of this number. Takes no memory. O(log n), where there are n items.
+    pub fn contains(&self, id: u64) -> bool
+        ensures { result ≡ is_some (numbered id self.now.items) }
+    {
+        is_there(&self.items, id)
     }
 
     /// The item of this number. Takes no memory. O(log n), where there are n items.
@@ -93,12 +110,29 @@ impl Catalog {
         &self.items[place]
     }
 
+    /// The number of the oldest index on the item `on` that is in this cluster, None where there is none. Takes no
+    /// memory. O(1) expected.
+    pub fn oldest_index(&self, on: u64, cluster: u64) -> Option<u64>
+        ensures { result ≡ oldest_index self.now.items cluster on }
+    {
+        kept_at(&self.oldest, on, cluster)
+    }
+
+    /// The number that the next item gets, above those of all items. Takes no memory.
+    pub fn next(&self) -> u64
+        ensures next { result ≡ self.now.next }
+        ensures catalog { IsCatalog self.now }
+    {
+        self.next
+    }
+
     /// A copy of the catalog. O(n), where there are n items.
     pub fn try_copy(&self) -> Result<Catalog, AllocError>
         ensures { IfOk result (λ copy. copy ≡ self.now) }
     {
         Ok(Catalog {
             items: copied(&self.items)?,
+            oldest: copied_oldest(&self.oldest)?,
             next: self.next,
         })
     }

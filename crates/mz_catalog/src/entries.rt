@@ -1,7 +1,7 @@
 //! Items under their names, in order of creation.
-ghost use Rattle.std.specs.Prelude.{◌≡◌, ◌∷◌, ◌++◌, ◌<◌, ◌⊎◌, [], None, is_some, remove, slice_get, find, option_map, bytes_eq, IfOk, OnOk, IfErr, OnErr, IsSome};
+ghost use Rattle.std.specs.Prelude.{◌≡◌, ◌==◌, ◌&&◌, ◌∷◌, ◌++◌, ◌<◌, ◌⊎◌, [], None, is_some, remove, slice_get, find, option_map, bytes_eq, IfOk, OnOk, IfErr, OnErr, IsSome};
 ghost use Rattle.indexmap.specs.IndexMap.{get, values, index_map_len};
-ghost use Rattle.mz_catalog.specs.CatalogState.{named, numbered, others, refusal, Ascend, IsCause};
+ghost use Rattle.mz_catalog.specs.CatalogState.{is_on, named, numbered, oldest_index, others, refusal, Ascend, IsCause};
 ghost use Rattle.mz_catalog.specs.declared.fault.CatalogFault.TheVariants.{NameTaken, Memory};
 ghost use Rattle.mz_catalog.specs.Dependents.{depends, dependents, dependents_on, IsHeldBack, Tells};
 ghost use Rattle.mz_catalog.specs.Keyed.{AreKeyed};
@@ -10,7 +10,7 @@ use crate::CatalogFault;
 use crate::dependents::{depends, is_index};
 use indexmap::IndexMap;
 use mz_bag::Name;
-use mz_plan::Item;
+use mz_plan::{Item, ItemKind};
 use std::alloc::{AllocError, Global};
 
 /// How many items there may be.
@@ -39,6 +39,47 @@ pub fn place_of(items: &IndexMap<Name, Item>, id: u64) -> usize
         Ok(place) => place,
         Err(_) => unreachable!(),
     }
+}
+
+/// Whether there is an item of this number. O(log n), where there are n items.
+pub fn is_there(items: &IndexMap<Name, Item>, id: u64) -> bool
+    requires { Ascend (values items.now) }
+    ensures { result ≡ is_some (numbered id (values items.now)) }
+{
+    match items.binary_search_by_key(&id, |_, item| item.id) {
+        Ok(_) => true,
+        Err(_) => false,
+    }
+}
+
+// Whether what is of this kind is an index on the item of this number.
+fn is_on(on: u64, kind: &ItemKind) -> bool
+    ensures { result ≡ is_on on kind.now }
+{
+    match kind {
+        ItemKind::Index(relation, _) => *relation == on,
+        _ => false,
+    }
+}
+
+// Whether the item is an index on the item of this number, in this cluster.
+fn is_index_on(item: &Item, on: u64, cluster: u64) -> bool
+    ensures { result ≡ (item.now.cluster == cluster && is_on on item.now.kind) }
+{
+    item.cluster == cluster && is_on(on, &item.kind)
+}
+
+/// The number of the oldest index on the item of this number that is in this cluster. O(n), where there are n
+/// items.
+pub fn oldest_index(items: &IndexMap<Name, Item>, on: u64, cluster: u64) -> Option<u64>
+    ensures { result ≡ oldest_index (values items.now) cluster on }
+{
+    'items: for item in items.values() {
+        if is_index_on(item, on, cluster) {
+            return Some(item.id);
+        }
+    }
+    None
 }
 
 // Whether an item has this name. O(1) expected.

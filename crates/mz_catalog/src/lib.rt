@@ -8,6 +8,7 @@ mod catalog;
 mod dependents;
 mod entries;
 mod fault;
+mod oldest;
 #[cfg(test)]
 mod tests;
 

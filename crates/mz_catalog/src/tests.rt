@@ -166,6 +166,18 @@ fn numbers_go_up_and_copies_are_apart(rt: HostRuntime) -> Result<(), Fail> {
 }
 
 #[test]
+fn the_oldest_index_goes_before_the_next_one(rt: HostRuntime) -> Result<(), Fail> {
+    let mut catalog = small(&rt, rt.alloc())?;
+    add(&mut catalog, index(&rt, rt.alloc(), "k", 1)?)?;
+    assert_eq!(rt; catalog.oldest_index(1, 0), Some(4));
+    let oldest = name(&rt, rt.alloc(), "i")?;
+    removal(rt.alloc(), &mut catalog, &oldest)?;
+    assert_eq!(rt; catalog.oldest_index(1, 0), Some(6));
+    assert_eq!(rt; catalog.oldest_index(1, 1), None);
+    Ok(())
+}
+
+#[test]
 fn there_are_at_most_1024_items(rt: HostRuntime) -> Result<(), Fail> {
     let mut catalog = Catalog::empty(rt.alloc());
     'items: for place in 0..1025u64 {

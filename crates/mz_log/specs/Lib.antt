@@ -8,3 +8,9 @@ pub mod Calls
 pub mod Submission
 pub mod Legal
 pub mod History
+pub mod Steps
+pub mod Columns
+pub mod Conditions
+pub mod Listings
+pub mod Queries
+pub mod Resolution

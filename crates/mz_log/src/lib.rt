@@ -4,5 +4,7 @@
 #![tactic(auto)]
 
 mod entry;
+mod relation;
 
 pub use entry::{Answered, Entry, PendingRead, Reply};
+pub use relation::{Listed, Listing, NamedRelation, Referred, Relation};

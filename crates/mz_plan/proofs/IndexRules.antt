@@ -18,17 +18,24 @@ parted [] x within is = absurd (omega (arith, within))
 parted (y ∷ ys) x within is = ap (λ z. z ∷ ys) (sym is) ∙ ap (λ zs. x ∷ zs) (sym (take_all (length (y ∷ ys) - 1) ys (omega arith)))
 
 -- the newest index gives its plan's rows
-pub newest_rows : (tables : Leaves) (newest : ℕ × Plan) (older : List (ℕ × Plan)) (item : ℕ) → newest.0 ≡ item → meaning tables (index_rows tables older) newest.1 ≡ index_rows tables (newest ∷ older) item
-newest_rows tables newest older item is = sym (ap (λ c. cond c (meaning tables (index_rows tables older) newest.1) (index_rows tables older item)) ((Decides-eqb newest.0 item).1 is))
+pub newest_rows : (tables : Leaves) (newest : ℕ × Plan) (older : List (ℕ × Plan)) (item : ℕ) → newest.0 ≡ item
+    → meaning tables (index_rows tables older) newest.1 ≡ index_rows tables (newest ∷ older) item
+newest_rows tables newest older item is =
+    sym (ap (λ c. cond c (meaning tables (index_rows tables older) newest.1) (index_rows tables older item))
+    ((Decides-eqb newest.0 item).1 is))
 
 -- where it is bounded its plan is
-pub newest_bounded : (tables : Leaves) (newest : ℕ × Plan) (older : List (ℕ × Plan)) (item : ℕ) → newest.0 ≡ item → index_bounded tables (newest ∷ older) item → IsBoundedOver tables older newest.1
-newest_bounded tables newest older item is h = subst (λ c. either_of c (IsBoundedOver tables older newest.1) (index_bounded tables older item)) ((Decides-eqb newest.0 item).1 is) h
+pub newest_bounded : (tables : Leaves) (newest : ℕ × Plan) (older : List (ℕ × Plan)) (item : ℕ) → newest.0 ≡ item
+    → index_bounded tables (newest ∷ older) item → IsBoundedOver tables older newest.1
+newest_bounded tables newest older item is h =
+    subst (λ c. either_of c (IsBoundedOver tables older newest.1) (index_bounded tables older item)) ((Decides-eqb newest.0 item).1 is) h
 
 -- and an older one is bounded
-pub older_bounded : (tables : Leaves) (newest : ℕ × Plan) (older : List (ℕ × Plan)) (item : ℕ) → newest.0 ≢ item → index_bounded tables (newest ∷ older) item → index_bounded tables older item
+pub older_bounded : (tables : Leaves) (newest : ℕ × Plan) (older : List (ℕ × Plan)) (item : ℕ) → newest.0 ≢ item
+    → index_bounded tables (newest ∷ older) item → index_bounded tables older item
 older_bounded tables newest older item other h = by (newest.0 == item) refl h
   where
-    by : (c : Bool) → (newest.0 == item) ≡ c → either_of c (IsBoundedOver tables older newest.1) (index_bounded tables older item) → index_bounded tables older item
+    by : (c : Bool) → (newest.0 == item) ≡ c → either_of c (IsBoundedOver tables older newest.1) (index_bounded tables older item)
+        → index_bounded tables older item
     by true is h = absurd (other ((Decides-eqb newest.0 item).0 is))
     by false is h = h

@@ -4,6 +4,7 @@ pub mod ConditionRules
 pub mod Extremes
 pub mod GroupLaws
 pub mod IndexRules
+pub mod JoinMass
 pub mod MeaningLaws
 pub mod OperatorLaws
 pub mod PlanMeasure
@@ -13,4 +14,5 @@ pub mod Weighing
 pub mod RowsRules
 pub mod SmallPlans
 pub mod TypeRules
+pub mod UnboundedRules
 pub mod ValueRules

@@ -12,12 +12,14 @@ unfolding Rattle.mz_plan.specs.declared.plan.Plan.TheBlock.hidden-the_row-Plan-0
 columns_of_filter items plan cond = refl
 
 -- of a project
-pub columns_of_project : (items : List Item) (plan : Plan) (places : List ℕ) → plan_columns items (Project plan places) ≡ columns_at places (plan_columns items plan)
+pub columns_of_project : (items : List Item) (plan : Plan) (places : List ℕ)
+    → plan_columns items (Project plan places) ≡ columns_at places (plan_columns items plan)
 unfolding Rattle.mz_plan.specs.declared.plan.Plan.TheBlock.hidden-the_row-Plan-0 denote.Hole.Carrier.hidden
 columns_of_project items plan places = refl
 
 -- of a join
-pub columns_of_join : (items : List Item) (left right : Plan) (pairs : List (ℕ × ℕ)) → plan_columns items (Join left right pairs) ≡ plan_columns items left ++ plan_columns items right
+pub columns_of_join : (items : List Item) (left right : Plan) (pairs : List (ℕ × ℕ))
+    → plan_columns items (Join left right pairs) ≡ plan_columns items left ++ plan_columns items right
 unfolding Rattle.mz_plan.specs.declared.plan.Plan.TheBlock.hidden-the_row-Plan-0 denote.Hole.Carrier.hidden
 columns_of_join items left right pairs = refl
 
@@ -27,7 +29,9 @@ unfolding Rattle.mz_plan.specs.declared.plan.Plan.TheBlock.hidden-the_row-Plan-0
 columns_of_union items left right = refl
 
 -- of a group
-pub columns_of_group : (items : List Item) (plan : Plan) (places : List ℕ) (aggregates : List Aggregate) → plan_columns items (Group plan places aggregates) ≡ columns_at places (plan_columns items plan) ++ filter_map (aggregate_column (plan_columns items plan)) aggregates
+pub columns_of_group : (items : List Item) (plan : Plan) (places : List ℕ) (aggregates : List Aggregate)
+    → plan_columns items (Group plan places aggregates) ≡ columns_at places (plan_columns items plan)
+    ++ filter_map (aggregate_column (plan_columns items plan)) aggregates
 unfolding Rattle.mz_plan.specs.declared.plan.Plan.TheBlock.hidden-the_row-Plan-0 denote.Hole.Carrier.hidden
 columns_of_group items plan places aggregates = refl
 

@@ -57,7 +57,8 @@ either_of false first second = second
 abbrev pub index_bounded : Leaves → List (ℕ × Plan) → ℕ → Type 0
 index_bounded tables [] item = ⊤
 index_bounded tables (newest ∷ older) item =
-    either_of (newest.0 == item) (IsBounded tables (index_rows tables older) (index_bounded tables older) newest.1) (index_bounded tables older item)
+    either_of (newest.0 == item) (IsBounded tables (index_rows tables older) (index_bounded tables older) newest.1)
+    (index_bounded tables older item)
 
 -- a plan is bounded over the indexes with these plans, the newest first
 abbrev pub IsBoundedOver : Leaves → List (ℕ × Plan) → Plan → Type 0

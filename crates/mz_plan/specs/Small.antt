@@ -53,7 +53,8 @@ IsSummingInts tables indexes summing (Distinct' s (more_of-Plan plan end_of-Plan
 abbrev pub index_summing : Leaves → List (ℕ × Plan) → ℕ → Type 0
 index_summing tables [] item = ⊤
 index_summing tables (newest ∷ older) item =
-    either_of (newest.0 == item) (IsSummingInts tables (index_rows tables older) (index_summing tables older) newest.1) (index_summing tables older item)
+    either_of (newest.0 == item) (IsSummingInts tables (index_rows tables older) (index_summing tables older) newest.1)
+    (index_summing tables older item)
 
 -- at most four tables are read, each of at most 65,536 rows with multiplicity, and each SUM takes INTs alone
 pub record IsSmall (tables : Leaves) (plans : List (ℕ × Plan)) (plan : Plan) : Type 0 where

@@ -54,7 +54,8 @@ plan_columns items (Table id) = item_columns items items id
 plan_columns items (Index id) = item_columns items items id
 plan_columns items (Filter' s (more_of-Plan plan end_of-Plan) cond) = plan_columns items plan
 plan_columns items (Project' s (more_of-Plan plan end_of-Plan) places) = columns_at places (plan_columns items plan)
-plan_columns items (Join' s (more_of-Plan left end_of-Plan) r (more_of-Plan right end_of-Plan) pairs) = plan_columns items left ++ plan_columns items right
+plan_columns items (Join' s (more_of-Plan left end_of-Plan) r (more_of-Plan right end_of-Plan) pairs) =
+    plan_columns items left ++ plan_columns items right
 plan_columns items (Union' s (more_of-Plan left end_of-Plan) r (more_of-Plan right end_of-Plan)) = plan_columns items left
 plan_columns items (Group' s (more_of-Plan plan end_of-Plan) places aggregates) =
     columns_at places (plan_columns items plan) ++ filter_map (aggregate_column (plan_columns items plan)) aggregates

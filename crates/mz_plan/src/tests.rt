@@ -360,11 +360,11 @@ fn plans_past_the_bound_are_told(rt: HostRuntime) -> Result<(), Fail> {
         Plan::Table(4),
         "1267650600228229401496703205376 of 0 h; ",
     )?;
-    gives(&rt, alloc, join(alloc, Plan::Table(4), Plan::Table(3))?, "")?;
+    gives(&rt, alloc, join(alloc, Plan::Table(4), Plan::Table(1))?, "")?;
     gives(
         &rt,
         alloc,
-        join(alloc, Plan::Table(4), Plan::Table(1))?,
+        join(alloc, Plan::Table(4), Plan::Table(4))?,
         "not bounded",
     )?;
     gives(

@@ -6,7 +6,7 @@ use mz_bag::{Datum, Row};
 use std::alloc::{AllocError, Global};
 use std::cmp::Ordering;
 
-// The value of a row at a place, or another one where the row ends before it.
+/// The value of a row at a place, or another one where the row ends before it.
 pub fn value_or<'a>(row: &'a Row, place: u64, absent: &'a Datum) -> &'a Datum
     ensures { result.now ≡ get_or row.now place absent.now }
 {
@@ -16,7 +16,7 @@ pub fn value_or<'a>(row: &'a Row, place: u64, absent: &'a Datum) -> &'a Datum
     }
 }
 
-// A copy of the value of a row at a place. FALSE where the row ends before it.
+/// A copy of the value of a row at a place. FALSE where the row ends before it.
 pub fn value_at(alloc: Global, row: &Row, place: u64) -> Result<Datum, AllocError>
     ensures { IfOk result (λ value. value ≡ value_at row.now place) }
 {
@@ -24,7 +24,7 @@ pub fn value_at(alloc: Global, row: &Row, place: u64) -> Result<Datum, AllocErro
     value_or(row, place, &absent).try_copy(alloc)
 }
 
-// A copy of the values of a row at these places.
+/// A copy of the values of a row at these places.
 pub fn cells(alloc: Global, row: &Row, places: &[u64]) -> Result<Row, AllocError>
     ensures { IfOk result (λ copy. copy ≡ cells places.now row.now) }
 {
@@ -35,7 +35,7 @@ pub fn cells(alloc: Global, row: &Row, places: &[u64]) -> Result<Row, AllocError
     Ok(Row::from_vec(values))
 }
 
-// How two values compare: an INT and a WIDE by number, all others by the order of values.
+/// How two values compare: an INT and a WIDE by number, all others by the order of values.
 #[tactic(auto, using(crate::proofs::ValueRules::cmp_rules))]
 pub fn compare(first: &Datum, second: &Datum) -> Ordering
     ensures { result ≡ value_cmp first.now second.now }

@@ -9,5 +9,5 @@ use Rattle.mz_catalog.proofs.catalog.Catalog.find.Goals as goal
 pub returns-clause-there : goal.returns-clause-there
 returns-clause-there c =
     let there =
-    there-named c.args.name.now (values_of c.self.inside.items.entries) c.id_of.result c.self.invariant.catalog.numbers c.id_of.ensures in
+    there-named c.args.name.now (values_of c.self.inside.items.entries) c.id_of.result c.self.invariant.stored.catalog.numbers c.id_of.ensures in
     subst (λ (s : CatalogState). IfSome {T = ℕ} c.id_of.result (λ id. IsSome (numbered id s.items))) c.self.view_is there

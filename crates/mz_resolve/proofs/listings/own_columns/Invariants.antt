@@ -1,0 +1,7 @@
+use Rattle.std.proofs.Common.{◌≡◌, ◌++◌, map, drop}
+use Rattle.mz_log.specs.Listings.{own_column}
+use Rattle.mz_resolve.proofs.listings.own_columns.Given as goal
+
+-- the columns so far, with those that are left
+abbrev pub invariant-columns : goal.invariant-columns
+invariant-columns l = l.own.items ++ map own_column (drop l.seen-index l.columns) ≡ map own_column l.columns

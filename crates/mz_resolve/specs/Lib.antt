@@ -1,0 +1,4 @@
+pub mod Gives
+pub mod InCatalog
+pub mod Parts
+pub mod Tests
