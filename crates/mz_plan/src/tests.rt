@@ -37,35 +37,46 @@ fn wide_is(op: Op) -> Cond {
     Cond::Compare(2, op, Operand::Place(0))
 }
 
-// Conditions, and whether each holds of the row (2, 'b', 2).
-fn conditions(alloc: Global) -> Result<[(Cond, bool); 8], AllocError> {
-    let both = Cond::And(
-        Boxed::new(alloc, number_is(Op::Lt, 3))?,
-        Boxed::new(alloc, word_is(alloc, Op::Eq, "a")?)?,
-    );
-    let either = Cond::Or(
-        Boxed::new(alloc, number_is(Op::Lt, 3))?,
-        Boxed::new(alloc, word_is(alloc, Op::Eq, "a")?)?,
-    );
-    let neither = Cond::Not(Boxed::new(alloc, number_is(Op::Ge, 2))?);
-    Ok([
-        (number_is(Op::Eq, 2), true),
-        (number_is(Op::Ne, 2), false),
-        (wide_is(Op::Eq), true),
-        (wide_is(Op::Gt), false),
-        (word_is(alloc, Op::Le, "ba")?, true),
-        (both, false),
-        (either, true),
-        (neither, false),
-    ])
+// Whether a condition holds of the row (2, 'b', 2).
+fn holds(alloc: Global, cond: Cond) -> Result<bool, AllocError> {
+    let row = row(alloc, 2, "b", 2)?;
+    Ok(cond.holds(&row))
+}
+
+// `#0 < 3` and `#1 = 'a'`, of which the first holds.
+fn two(alloc: Global) -> Result<(Boxed<Cond>, Boxed<Cond>), AllocError> {
+    let first = Boxed::new(alloc, number_is(Op::Lt, 3))?;
+    Ok((first, Boxed::new(alloc, word_is(alloc, Op::Eq, "a")?)?))
+}
+
+fn both(alloc: Global) -> Result<Cond, AllocError> {
+    let (first, second) = two(alloc)?;
+    Ok(Cond::And(first, second))
+}
+
+fn either(alloc: Global) -> Result<Cond, AllocError> {
+    let (first, second) = two(alloc)?;
+    Ok(Cond::Or(first, second))
+}
+
+#[test]
+fn comparisons_are_as_by_hand(rt: HostRuntime) -> Result<(), Fail> {
+    let alloc = rt.alloc();
+    assert!(rt; holds(alloc, number_is(Op::Eq, 2))?);
+    assert!(rt; !holds(alloc, number_is(Op::Ne, 2))?);
+    assert!(rt; holds(alloc, wide_is(Op::Eq))?);
+    assert!(rt; !holds(alloc, wide_is(Op::Gt))?);
+    assert!(rt; holds(alloc, word_is(alloc, Op::Le, "ba")?)?);
+    Ok(())
 }
 
 #[test]
 fn conditions_are_as_by_hand(rt: HostRuntime) -> Result<(), Fail> {
-    let row = row(rt.alloc(), 2, "b", 2)?;
-    for (cond, holds) in &conditions(rt.alloc())? {
-        assert_eq!(rt; cond.holds(&row), *holds, "{cond:?}");
-    }
+    let alloc = rt.alloc();
+    assert!(rt; !holds(alloc, both(alloc)?)?);
+    assert!(rt; holds(alloc, either(alloc)?)?);
+    let below = Boxed::new(alloc, number_is(Op::Ge, 2))?;
+    assert!(rt; !holds(alloc, Cond::Not(below))?);
     Ok(())
 }
 
@@ -385,108 +396,113 @@ fn time(number: u64) -> Time {
     Time::new(number).unwrap_or(Time::zero())
 }
 
-// A refusal of each cause, with its text.
-fn refusals(rt: &impl Abort, alloc: Global) -> Result<[(Refusal, &'static str); 20], AllocError> {
-    let (one, two) = (time(1), time(2));
-    Ok([
-        (Refusal::Syntax { at: 7 }, ": at 7"),
-        (
-            Refusal::UnknownName {
-                name: name(rt, alloc)?,
-            },
-            ": kv",
-        ),
-        (
-            Refusal::UnknownColumn {
-                name: text(alloc, "kv.z")?,
-            },
-            ": kv.z",
-        ),
-        (
-            Refusal::NameTaken {
-                name: name(rt, alloc)?,
-            },
-            ": kv",
-        ),
-        (
-            Refusal::WrongType {
-                name: text(alloc, "*")?,
-            },
-            ": *",
-        ),
-        (Refusal::LiteralRange { at: 26 }, ": at 26"),
-        (Refusal::TooManyLeaves { has: 5 }, ": has 5"),
-        (
-            Refusal::HasDependents {
-                name: name(rt, alloc)?,
-            },
-            ": kv",
-        ),
-        (
-            Refusal::TableFull {
-                has: 65536,
-                adds: 1,
-            },
-            ": has 65536, adds 1",
-        ),
-        (Refusal::Busy { call: 1 }, ": call 1"),
-        (
-            Refusal::BeforeSession {
-                asked: one,
-                seen: two,
-            },
-            ": asked 1, seen 2",
-        ),
-        (
-            Refusal::BeforeSince {
-                asked: one,
-                since: two,
-            },
-            ": asked 1, since 2",
-        ),
-        (
-            Refusal::AfterRead {
-                asked: two,
-                read: one,
-            },
-            ": asked 2, read 1",
-        ),
-        (
-            Refusal::CatalogMoved {
-                ddl: two,
-                asked: one,
-            },
-            ": ddl 2, asked 1",
-        ),
-        (Refusal::InTransaction, ": in transaction"),
-        (Refusal::NoTransaction, ": no transaction"),
-        (
-            Refusal::TooMany {
-                what: Limited::Feeds,
-                limit: 4096,
-            },
-            ": feeds 4096",
-        ),
-        (Refusal::TimeSpent { last: two }, ": last 2"),
-        (Refusal::Closed, ": closed"),
-        (
-            Refusal::BelowHold {
-                at: one,
-                asked: two,
-            },
-            ": at 1, asked 2",
-        ),
-    ])
+// That a refusal has this number and this text.
+fn reads(
+    rt: &impl Abort,
+    alloc: Global,
+    refusal: Refusal,
+    number: u64,
+    text: &str,
+) -> Result<(), AllocError> {
+    let written = format!(in alloc; "{refusal}")?;
+    assert_eq!(rt; written.as_str(), text);
+    assert_eq!(rt; refusal.number(), number);
+    Ok(())
 }
 
 #[test]
-fn refusals_are_in_order_with_their_texts(rt: HostRuntime) -> Result<(), Fail> {
-    let mut number = 0;
-    for (refusal, text) in &refusals(&rt, rt.alloc())? {
-        let written = format!(in rt.alloc(); "{refusal}")?;
-        assert_eq!(rt; written.as_str(), *text);
-        assert!(rt; refusal.number() > number && refusal.number() < 21);
-        number = refusal.number();
-    }
+fn refusals_of_texts_and_names_are_read(rt: HostRuntime) -> Result<(), Fail> {
+    let alloc = rt.alloc();
+    reads(&rt, alloc, Refusal::Syntax { at: 7 }, 1, ": at 7")?;
+    reads(&rt, alloc, Refusal::LiteralRange { at: 26 }, 6, ": at 26")?;
+    let name = name(&rt, alloc)?;
+    reads(&rt, alloc, Refusal::UnknownName { name }, 2, ": kv")?;
+    let name = text(alloc, "kv.z")?;
+    reads(&rt, alloc, Refusal::UnknownColumn { name }, 3, ": kv.z")?;
+    Ok(())
+}
+
+#[test]
+fn refusals_of_items_are_read(rt: HostRuntime) -> Result<(), Fail> {
+    let alloc = rt.alloc();
+    let taken = name(&rt, alloc)?;
+    reads(&rt, alloc, Refusal::NameTaken { name: taken }, 4, ": kv")?;
+    let name = text(alloc, "*")?;
+    reads(&rt, alloc, Refusal::WrongType { name }, 5, ": *")?;
+    reads(&rt, alloc, Refusal::TooManyLeaves { has: 5 }, 7, ": has 5")?;
+    let name = self::name(&rt, alloc)?;
+    reads(&rt, alloc, Refusal::HasDependents { name }, 8, ": kv")?;
+    Ok(())
+}
+
+#[test]
+fn refusals_by_numbers_are_read(rt: HostRuntime) -> Result<(), Fail> {
+    let alloc = rt.alloc();
+    let (has, adds) = (65536, 1);
+    reads(
+        &rt,
+        alloc,
+        Refusal::TableFull { has, adds },
+        9,
+        ": has 65536, adds 1",
+    )?;
+    reads(&rt, alloc, Refusal::Busy { call: 1 }, 10, ": call 1")?;
+    let (what, limit) = (Limited::Feeds, 4096);
+    reads(
+        &rt,
+        alloc,
+        Refusal::TooMany { what, limit },
+        17,
+        ": feeds 4096",
+    )?;
+    Ok(())
+}
+
+#[test]
+fn refusals_by_times_are_read(rt: HostRuntime) -> Result<(), Fail> {
+    let alloc = rt.alloc();
+    let (one, two) = (time(1), time(2));
+    let before = Refusal::BeforeSession {
+        asked: one,
+        seen: two,
+    };
+    reads(&rt, alloc, before, 11, ": asked 1, seen 2")?;
+    let before = Refusal::BeforeSince {
+        asked: one,
+        since: two,
+    };
+    reads(&rt, alloc, before, 12, ": asked 1, since 2")?;
+    let after = Refusal::AfterRead {
+        asked: two,
+        read: one,
+    };
+    reads(&rt, alloc, after, 13, ": asked 2, read 1")?;
+    Ok(())
+}
+
+#[test]
+fn refusals_of_moved_times_are_read(rt: HostRuntime) -> Result<(), Fail> {
+    let alloc = rt.alloc();
+    let (one, two) = (time(1), time(2));
+    let moved = Refusal::CatalogMoved {
+        ddl: two,
+        asked: one,
+    };
+    reads(&rt, alloc, moved, 14, ": ddl 2, asked 1")?;
+    reads(&rt, alloc, Refusal::TimeSpent { last: two }, 18, ": last 2")?;
+    let below = Refusal::BelowHold {
+        at: one,
+        asked: two,
+    };
+    reads(&rt, alloc, below, 20, ": at 1, asked 2")?;
+    Ok(())
+}
+
+#[test]
+fn refusals_of_sessions_are_read(rt: HostRuntime) -> Result<(), Fail> {
+    let alloc = rt.alloc();
+    reads(&rt, alloc, Refusal::InTransaction, 15, ": in transaction")?;
+    reads(&rt, alloc, Refusal::NoTransaction, 16, ": no transaction")?;
+    reads(&rt, alloc, Refusal::Closed, 19, ": closed")?;
     Ok(())
 }

@@ -84,14 +84,16 @@ falls_reverse (item ∷ items) up =
 below_all : (below : ℕ) (items : List Item) → Each (λ item. item.id < below) items → filter (λ item. nat_lt item.id below) items ≡ items
 below_all below [] each = refl
 below_all below (item ∷ items) each =
-    ap (λ b. cond b (item ∷ filter (λ other. nat_lt other.id below) items) (filter (λ other. nat_lt other.id below) items)) (lt-ltb item.id below each.0)
+    ap (λ b. cond b (item ∷ filter (λ other. nat_lt other.id below) items) (filter (λ other. nat_lt other.id below) items))
+    (lt-ltb item.id below each.0)
     ∙ ap (λ others. item ∷ others) (below_all below items each.1)
 
 -- an item that isn't below a number goes
 below_first : (below : ℕ) (item : Item) (items : List Item) → below ≤ item.id
     → filter (λ other. nat_lt other.id below) (item ∷ items) ≡ filter (λ other. nat_lt other.id below) items
 below_first below item items not_below =
-    ap (λ b. cond b (item ∷ filter (λ other. nat_lt other.id below) items) (filter (λ other. nat_lt other.id below) items)) (apart item.id below not_below)
+    ap (λ b. cond b (item ∷ filter (λ other. nat_lt other.id below) items) (filter (λ other. nat_lt other.id below) items))
+    (apart item.id below not_below)
   where
     apart : (a b : ℕ) → b ≤ a → nat_lt a b ≡ false
     apart a b le = grind arith
@@ -207,11 +209,13 @@ newest_named name below (oldest ∷ items) names =
     never false = refl
 
     by : (b : Bool) → bytes_eq name oldest.name ≡ b
-        → option_or (kept below (catalogs.named name items)) (find (λ item. bytes_eq name item.name) (filter (λ item. nat_lt item.id below) (oldest ∷ [])))
+        → option_or (kept below (catalogs.named name items))
+        (find (λ item. bytes_eq name item.name) (filter (λ item. nat_lt item.id below) (oldest ∷ [])))
         ≡ kept below (cond b (Some oldest) (catalogs.named name items))
     by true is =
         let same : name ≡ oldest.name = (bytes_eq-Decides name oldest.name).0 is in
-        ap (λ found. option_or (kept below found) (find (λ item. bytes_eq name item.name) (filter (λ item. nat_lt item.id below) (oldest ∷ []))))
+        ap (λ found. option_or (kept below found)
+        (find (λ item. bytes_eq name item.name) (filter (λ item. nat_lt item.id below) (oldest ∷ []))))
         (absent_named name items (subst (λ word. Each (λ item. word ≢ item.name) items) (sym same) others))
         ∙ alone true (nat_lt oldest.id below) is
     by false is =
@@ -224,7 +228,8 @@ pub found_item : (catalog : CatalogState) (name : List ℕ) (id : ℕ) (item : I
     → catalogs.named name catalog.items ≡ Some item
 found_item catalog name id item is finds has = by (catalogs.named name catalog.items) refl finds
   where
-    by : (found : Option Item) → catalogs.named name catalog.items ≡ found → Some id ≡ option_map (λ other. other.id) found → found ≡ Some item
+    by : (found : Option Item) → catalogs.named name catalog.items ≡ found → Some id ≡ option_map (λ other. other.id) found
+        → found ≡ Some item
     by None at finds = absurd cc
     by (Some other) at finds =
         let number : id ≡ other.id = cc in

@@ -65,7 +65,8 @@ selected_fails names select joins first (Refused refusal) is same fails =
     rw (is, all) refl
 
 -- a select whose references are found
-pub selected_is : (names : Names) (select : Select) (joins : List Join) (first : Referred) (others : List Referred) (result : Result Relation CallFault)
+pub selected_is : (names : Names) (select : Select) (joins : List Join) (first : Referred) (others : List Referred)
+    → (result : Result Relation CallFault)
     → referred names select.first ≡ Ok first → joins ≡ select.joins → joined names joins ≡ Ok others
     → Is result (select_over (view_of (first ∷ others)) first others select) → Is result (selected names select)
 selected_is names select joins first others result is same gives over =
@@ -83,13 +84,15 @@ queried_first_fails names selects select rest (Refused refusal) parts fails = ap
 
 -- a query of which another select fails
 pub queried_fails : (names : Names) (selects : List Select) (select : Select) (rest : List Select) (first : Relation) (fault : CallFault)
-    → selects ≡ select ∷ rest → selected names select ≡ Ok first → Fails fault (each (selected names) rest) → Fails fault (queried names selects)
+    → selects ≡ select ∷ rest → selected names select ≡ Ok first → Fails fault (each (selected names) rest)
+    → Fails fault (queried names selects)
 queried_fails names selects select rest first Memory parts is fails = tt
 queried_fails names selects select rest first (Refused refusal) parts is fails = ap (queried names) parts ∙ rw (is, fails) refl
 
 -- a query whose selects are found
 pub queried_is : (names : Names) (selects : List Select) (select : Select) (rest : List Select) (first : Relation) (others : List Relation)
-    → (result : Result Relation CallFault) → selects ≡ select ∷ rest → selected names select ≡ Ok first → each (selected names) rest ≡ Ok others
+    → (result : Result Relation CallFault) → selects ≡ select ∷ rest → selected names select ≡ Ok first
+    → each (selected names) rest ≡ Ok others
     → Is result (united first others >>= light) → Is result (queried names selects)
 queried_is names selects select rest first others result parts is gives whole =
     let all : queried names (select ∷ rest) ≡ (united first others >>= light) = rw (is, gives) refl in

@@ -7,16 +7,21 @@ use Rattle.mz_resolve.proofs.relations.item_below.Goals as goal
 -- the name finds it
 pub returns-in-Some-clause-item : goal.returns-in-Some-clause-item
 returns-in-Some-clause-item c =
-    sym (found_below c.args.catalog.now c.args.name.now c.args.below c.in-Some.id c.item.result.now c.find.ensures.catalog c.in-Some.ensures.id c.item.ensures.item c.if-id-below.true)
+    sym (found_below c.args.catalog.now c.args.name.now c.args.below c.in-Some.id c.item.result.now c.find.ensures.catalog
+    c.in-Some.ensures.id c.item.ensures.item c.if-id-below.true)
 
 -- it has the number that was found
 pub returns-in-Some-clause-below : goal.returns-in-Some-clause-below
 returns-in-Some-clause-below c =
-    subst (λ id. id < c.args.below) (sym (id-numbered c.in-Some.id c.args.catalog.now.items c.item.result.now c.item.ensures.item)) c.if-id-below.true
+    subst (λ id. id < c.args.below) (sym (id-numbered c.in-Some.id c.args.catalog.now.items c.item.result.now c.item.ensures.item))
+    c.if-id-below.true
 
 -- the name finds none, or one that is not below
 pub returns-in_default-clause-item : goal.returns-in_default-clause-item
 returns-in_default-clause-item c = elim c.in_default.branch [
-  | in_default-via-in-Some+else-id-below w ↦ sym (found_above c.args.catalog.now c.args.name.now c.args.below w.in-Some.id c.find.ensures.catalog w.in-Some.ensures.id (omega (arith, w.if-id-below.false)))
-  | in_default-via-in_default w ↦ sym (found_nowhere c.args.catalog.now c.args.name.now c.args.below c.find.ensures.catalog (sym w.in_default.is ∙ c.find.ensures.id))
+  | in_default-via-in-Some+else-id-below w ↦
+      sym (found_above c.args.catalog.now c.args.name.now c.args.below w.in-Some.id c.find.ensures.catalog w.in-Some.ensures.id
+      (omega (arith, w.if-id-below.false)))
+  | in_default-via-in_default w ↦
+      sym (found_nowhere c.args.catalog.now c.args.name.now c.args.below c.find.ensures.catalog (sym w.in_default.is ∙ c.find.ensures.id))
 ]

@@ -9,4 +9,5 @@ use Rattle.mz_resolve.proofs.statements.named_in.Goals as goal
 pub returns : goal.returns
 returns c =
     subst (λ items. Is c.named.result (named (scope_in c.args.catalog.now c.args.cluster) items c.args.name.now))
-    (ap (λ next. items_below next c.args.catalog.now.items) c.next.ensures.next ∙ below_next c.args.catalog.now c.next.ensures.catalog) c.named.ensures
+    (ap (λ next. items_below next c.args.catalog.now.items) c.next.ensures.next ∙ below_next c.args.catalog.now c.next.ensures.catalog)
+    c.named.ensures

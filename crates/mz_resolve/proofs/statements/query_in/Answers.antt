@@ -9,5 +9,8 @@ use Rattle.mz_resolve.proofs.statements.query_in.Goals as goal
 -- all items are below the next number
 pub returns : goal.returns
 returns c =
-    subst (λ items. Is c.queried.result (queried (λ word. without_number (named (scope_in c.args.catalog.now c.args.cluster) items word)) c.args.selects.now))
-    (ap (λ next. items_below next c.args.catalog.now.items) c.next.ensures.next ∙ below_next c.args.catalog.now c.next.ensures.catalog) c.queried.ensures
+    subst
+    (λ items. Is c.queried.result
+    (queried (λ word. without_number (named (scope_in c.args.catalog.now c.args.cluster) items word)) c.args.selects.now))
+    (ap (λ next. items_below next c.args.catalog.now.items) c.next.ensures.next ∙ below_next c.args.catalog.now c.next.ensures.catalog)
+    c.queried.ensures
