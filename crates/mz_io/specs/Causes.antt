@@ -1,9 +1,13 @@
 -- Why a call of the outside failed, told by the count of faults of the end that was called.
-use Rattle.std.specs.Prelude.{ℕ, ◌+◌, ◌-◌, ◌^◌, ◌≤◌, min, Result, OnErr}
+use Rattle.std.specs.Prelude.{ℕ, ◌+◌, ◌-◌, ◌^◌, ◌≤◌, min, Bool, if◌then◌else◌, Result, OnErr}
 
 -- a number of 64 bits that goes up by one, and stays at its last value
 abbrev pub one_more : ℕ → ℕ
 one_more n = min (n + 1) (2 ^ 64 - 1)
+
+-- the count after a call that failed or did not: only a failure raises it, and by one
+abbrev pub faults_after : ℕ → Bool → ℕ
+faults_after before failed = if failed then one_more before else before
 
 -- a count that rose is greater now, or stands at the last value that it can have
 abbrev pub Rose : ℕ → ℕ → Type 0

@@ -1,7 +1,7 @@
 -- What callers see of a source and a sink in memory, and which of their calls fail.
-use Rattle.std.specs.Prelude.{ℕ, ◌==◌, Bool, if◌then◌else◌, List}
+use Rattle.std.specs.Prelude.{ℕ, ◌==◌, Bool, List}
 use Rattle.std.specs.List.{list_any}
-use Rattle.mz_io.specs.Causes.{one_more}
+use Rattle.mz_io.specs.Causes.{one_more, faults_after}
 
 -- the calls of an end so far, and what is to become of them
 pub record Attempts : Type 0 where
@@ -41,5 +41,5 @@ abbrev pub after_call : Attempts → Bool → Attempts
 after_call calls failed = record {
   made = one_more calls.made;
   failing = calls.failing;
-  faults = if failed then one_more calls.faults else calls.faults;
+  faults = faults_after calls.faults failed;
 }

@@ -1,5 +1,8 @@
 //! Readers and writers of std as a source and a sink. Each counts the errors that it passes on.
-ghost use Rattle.std.specs.Prelude.{◌≡◌, ℕ};
+ghost use Rattle.std.specs.Prelude.{◌≡◌, ◌<◌, ℕ, length, is_err, IfOk};
+ghost use Rattle.std.specs.Io.{ReadsAtMost, WritesAtMost};
+ghost use Rattle.std.specs.Io.KnownBytes.{Keeps, ReadConsumes, WriteAppends};
+ghost use Rattle.mz_io.specs.Causes.{HasCause, Rose, faults_after};
 ghost use Rattle.mz_io.specs.Adapters.{Reader, Writer};
 
 use super::sink::Sink;
@@ -43,7 +46,14 @@ impl<R: Read> Source for ReadSource<R> {
 
     ghost faults = { λ s. s.faults };
 
-    fn read(&mut self, into: &mut [u8]) -> Result<usize, Failed> {
+    fn read(&mut self, into: &mut [u8]) -> Result<usize, Failed>
+        ensures bound { ReadsAtMost result into.new }
+        ensures bytes { ReadConsumes self.old.left self.new.left result into.new }
+        ensures cause { HasCause self.old.faults self.new.faults result }
+
+        // The count rises by one where this answers `Failed`, and only there.
+        ensures counted { self.new.faults ≡ faults_after self.old.faults (is_err result) }
+    {
         match self.reader.read(into) {
             Ok(count) => Ok(count),
             Err(_) => Err(Failed::counted(&mut self.faults)),
@@ -87,7 +97,16 @@ impl<W: Write> Sink for WriteSink<W> {
 
     ghost faults = { λ s. s.faults };
 
-    fn write(&mut self, piece: &[u8]) -> Result<usize, Failed> {
+    fn write(&mut self, piece: &[u8]) -> Result<usize, Failed>
+        ensures bound { WritesAtMost result piece.now }
+        ensures bytes { WriteAppends self.old.written self.new.written result piece.now }
+        ensures cause { HasCause self.old.faults self.new.faults result }
+        ensures none { IfOk result (λ count.
+            count ≡ 0 → 0 < length piece.now → Rose self.old.faults self.new.faults) }
+
+        // The count rises by one where this answers `Failed`, and only there.
+        ensures counted { self.new.faults ≡ faults_after self.old.faults (is_err result) }
+    {
         match self.writer.write(piece) {
             Ok(0) if !piece.is_empty() => Err(Failed::counted(&mut self.faults)),
             Ok(count) => Ok(count),
@@ -95,7 +114,11 @@ impl<W: Write> Sink for WriteSink<W> {
         }
     }
 
-    fn flush(&mut self) -> Result<(), Failed> {
+    fn flush(&mut self) -> Result<(), Failed>
+        ensures bytes { Keeps self.old.written self.new.written }
+        ensures cause { HasCause self.old.faults self.new.faults result }
+        ensures counted { self.new.faults ≡ faults_after self.old.faults (is_err result) }
+    {
         match self.writer.flush() {
             Ok(()) => Ok(()),
             Err(_) => Err(Failed::counted(&mut self.faults)),

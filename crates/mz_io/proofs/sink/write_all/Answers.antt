@@ -1,5 +1,5 @@
 -- The next bytes that the sink took are the front of what was still to be written.
-use Rattle.std.proofs.Common.{arith, ◌+◌, ◌≤◌, length}
+use Rattle.std.proofs.Common.{arith}
 use Rattle.std.proofs.lemmas.List.{length-drop, take_rest}
 use Rattle.mz_io.proofs.FrontLemmas.{front_more}
 use Rattle.mz_io.proofs.sink.write_all.Goals as goal
