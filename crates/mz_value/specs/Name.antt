@@ -11,8 +11,12 @@ begins_name byte = is_ascii_lowercase byte || byte == 95
 abbrev pub continues_name : ℕ → Bool
 continues_name byte = begins_name byte || is_ascii_digit byte
 
--- the bytes are a name: they begin and go on as names do, and are 1 to 63
+-- the most bytes that a name has
+abbrev pub longest_name : ℕ
+longest_name = 63
+
+-- the bytes are a name: they begin and go on as names do, and are not more than the longest has
 abbrev pub is_name : List ℕ → Bool
 is_name [] = false
 is_name (first ∷ rest) =
-    begins_name first && list_all continues_name rest && nat_le (length (first ∷ rest)) 63
+    begins_name first && list_all continues_name rest && nat_le (length (first ∷ rest)) longest_name

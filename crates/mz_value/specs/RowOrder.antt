@@ -1,18 +1,18 @@
 -- The orders of values and of rows are total, and only one value stands at a place of them.
-use Rattle.std.specs.Prelude.{◌≡◌, T, true, false, ◌&&◌, List, ℤ, refl}
+use Rattle.std.specs.Prelude.{◌≡◌, T, true, false, List, refl}
 use Rattle.std.specs.Bool.{Decides}
-use Rattle.std.specs.Ordering.{bool_cmp, int_eq, is_eq}
-use Rattle.std.specs.Cmp.{IsTotalOrder, IsEquivalence, Equal-is, tied_itself, eq_by_cmp_equiv, on_equiv, and_equiv, int_eq_equiv}
+use Rattle.std.specs.Ordering.{bool_cmp, is_eq}
+use Rattle.std.specs.Cmp.{IsTotalOrder, IsEquivalence, Equal-is, tied_itself, eq_by_cmp_equiv}
 use Rattle.std.specs.Cmp.Lexicographic.{lists_total}
 use Rattle.std.specs.declared.cmp.Ordering.TheVariants.{Equal}
 use Rattle.std.specs.FinMap.{IsAntisymmetric, int_cmp-IsAntisymmetric, nat_cmp-IsAntisymmetric, slice_cmp-IsAntisymmetric}
 use Rattle.std.proofs.Common.{sym, subst, ap}
-use Rattle.mz_bag.specs.declared.datum.Datum.{Datum}
-use Rattle.mz_bag.specs.declared.datum.Datum.TheVariants.{Int, Text, Bool as Truth, Wide}
-use Rattle.mz_bag.specs.contracts.datum.DatumOrd.TheImpl.{ghosts}
-use Rattle.mz_bag.specs.contracts.datum.DatumOrd.TheImpl.Laws.{total-law}
-use Rattle.mz_bag.specs.Datum.{datum_cmp}
-use Rattle.mz_bag.specs.Row.{row_cmp, row_eq}
+use Rattle.mz_value.specs.declared.datum.Datum.{Datum}
+use Rattle.mz_value.specs.declared.datum.Datum.TheVariants.{Int, Text, Bool as Truth, Wide}
+use Rattle.mz_value.specs.contracts.datum.DatumOrd.TheImpl.{ghosts}
+use Rattle.mz_value.specs.contracts.datum.DatumOrd.TheImpl.Laws.{total-law}
+use Rattle.mz_value.specs.Datum.{datum_cmp}
+use Rattle.mz_value.specs.Row.{row_cmp, row_eq}
 
 -- the order that is derived is the one by cases
 pub cmp-derived : (x y : Datum) → ghosts.cmp x y ≡ datum_cmp x y
@@ -69,7 +69,3 @@ row_eq-Decides x y = (
   λ e. row_exact x y ((Equal-is (row_cmp x y)).0 e),
   λ e. (Equal-is (row_cmp x y)).1 (subst (λ z. row_cmp x z ≡ Equal) e (tied_itself row_total x)),
 )
-
--- the test of rows with their counts is an equivalence
-pub counted_row_equiv : IsEquivalence {K = List Datum × ℤ} (λ p q. row_eq p.0 q.0 && int_eq p.1 q.1)
-counted_row_equiv = and_equiv (on_equiv (λ p. p.0) row_equiv) (on_equiv (λ p. p.1) int_eq_equiv)

@@ -1,7 +1,5 @@
 //! One value of a row.
-ghost use Rattle.std.specs.Prelude.{◌≡◌, IfOk};
-
-use crate::Text;
+use crate::{Text, TryCopy};
 use std::alloc::{AllocError, Global};
 
 /// A value. Values are in the order of the variants.
@@ -18,11 +16,9 @@ pub enum Datum {
     Wide(i128),
 }
 
-impl Datum {
-    /// A copy of the value. Only a text takes memory.
-    pub fn try_copy(&self, alloc: Global) -> Result<Datum, AllocError>
-        ensures { IfOk result (λ copy. copy ≡ self.now) }
-    {
+impl TryCopy for Datum {
+    // Only a text takes memory.
+    fn try_copy(&self, alloc: Global) -> Result<Datum, AllocError> {
         Ok(match self {
             Datum::Int(number) => Datum::Int(*number),
             Datum::Text(text) => Datum::Text(text.try_copy(alloc)?),

@@ -7,7 +7,7 @@ ghost use Rattle.std.specs.Cmp.{partial_equiv_from_equiv};
 ghost use Rattle.std.specs.Cmp.Lexicographic.{slice_cmp, nat_list_eq_equiv, nat_list_cmp_total, texts_ties, texts_po};
 ghost use Rattle.std.proofs.Common.{rules};
 ghost use Rattle.std.specs.Cmp.Rules.{hashing};
-ghost use Rattle.mz_bag.specs.Name.{begins_name, continues_name, is_name};
+ghost use Rattle.mz_value.specs.Name.{begins_name, continues_name, is_name};
 
 use std::alloc::{AllocError, Global};
 use std::cmp::Ordering;
@@ -15,8 +15,11 @@ use std::fmt;
 use std::hash::{Hash, Hasher};
 use std::marker::Model;
 
+/// The most bytes that a name may have.
+pub const LONGEST_NAME: usize = 63;
+
 /// A word that starts with a letter or `_` and goes on with letters, digits and `_`.
-/// Its letters are lowercase ASCII, and it has 1 to 63 bytes. Names are in order by bytes.
+/// Its letters are lowercase ASCII, and it has 1 to [`LONGEST_NAME`] bytes. Names are in order by bytes.
 #[derive(Debug, Drop)]
 pub struct Name {
     string: String,
@@ -24,7 +27,7 @@ pub struct Name {
 
 impl Model for Name {
     ghost use Rattle.std.specs.Prelude.{List, ℕ, ◌≡◌, true, string_bytes};
-    ghost use Rattle.mz_bag.specs.Name.{is_name};
+    ghost use Rattle.mz_value.specs.Name.{is_name};
 
     ghost Value = { List ℕ };
 
@@ -61,7 +64,7 @@ pub fn is_name(bytes: &[u8]) -> bool
     match bytes {
         [] => false,
         [first, rest @ ..] => {
-            begins_name(*first) && all_continue_name(rest) && bytes.len() <= 63
+            begins_name(*first) && all_continue_name(rest) && bytes.len() <= LONGEST_NAME
         }
     }
 }
@@ -79,6 +82,14 @@ impl Name {
             }),
             Err(_) => unreachable!(),
         }
+    }
+
+    /// The name of this string, which it takes over. Takes no memory.
+    pub fn from_string(string: String) -> Name
+        requires { is_name (string_bytes string) ≡ true }
+        ensures { result ≡ string_bytes string }
+    {
+        Name { string }
     }
 
     /// The name as a text. Takes no memory.

@@ -1,13 +1,13 @@
 //! A row of values, seen as their list.
-ghost use Rattle.std.specs.Prelude.{◌≡◌, IfOk, refl};
+ghost use Rattle.std.specs.Prelude.{◌≡◌, refl};
 ghost use Rattle.std.specs.Ordering.{as_partial_cmp};
 ghost use Rattle.std.specs.Hash as fed;
 ghost use Rattle.std.specs.Hash.{same_Alike};
 ghost use Rattle.std.specs.Cmp.{partial_equiv_from_equiv, po};
-ghost use Rattle.mz_bag.specs.Row.{row_cmp, row_eq};
-ghost use Rattle.mz_bag.specs.RowOrder.{row_total, row_equiv, row_eq-Decides};
+ghost use Rattle.mz_value.specs.Row.{row_cmp, row_eq};
+ghost use Rattle.mz_value.specs.RowOrder.{row_total, row_equiv, row_eq-Decides};
 
-use crate::Datum;
+use crate::{Datum, Listed, TryCopy, copied};
 use std::alloc::{AllocError, Global};
 use std::cmp::Ordering;
 use std::hash::{Hash, Hasher};
@@ -19,24 +19,16 @@ pub struct Row {
     cells: Vec<Datum>,
 }
 
+/// Rows in the order in which they were given. A row may stand at several places.
+pub type Rows = Listed<Row>;
+
 impl Model for Row {
     ghost use Rattle.std.specs.Prelude.{List};
-    ghost use Rattle.mz_bag.specs.declared.datum.Datum.{Datum};
+    ghost use Rattle.mz_value.specs.declared.datum.Datum.{Datum};
 
     ghost Value = { List Datum };
 
     ghost view = { λ r. r.cells.items };
-}
-
-// A copy of the values.
-fn copied_cells(alloc: Global, cells: &[Datum]) -> Result<Vec<Datum>, AllocError>
-    ensures { IfOk result (λ copy. copy.items ≡ cells.now) }
-{
-    let mut copy = Vec::with_capacity(alloc, cells.len())?;
-    for cell in cells {
-        copy.push(cell.try_copy(alloc)?)?;
-    }
-    Ok(copy)
 }
 
 impl Row {
@@ -60,13 +52,12 @@ impl Row {
     {
         self.cells.as_slice()
     }
+}
 
-    /// A copy of the row.
-    pub fn try_copy(&self, alloc: Global) -> Result<Row, AllocError>
-        ensures { IfOk result (λ copy. copy ≡ self.now) }
-    {
+impl TryCopy for Row {
+    fn try_copy(&self, alloc: Global) -> Result<Row, AllocError> {
         Ok(Row {
-            cells: copied_cells(alloc, &self.cells)?,
+            cells: copied(alloc, &self.cells)?,
         })
     }
 }

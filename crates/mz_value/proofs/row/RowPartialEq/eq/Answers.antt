@@ -1,11 +1,11 @@
 use Rattle.std.proofs.Common.{◌∙◌, ap}
 use Rattle.std.specs.Ordering.{is_eq}
 use Rattle.std.specs.Cmp.Lexicographic.{lists_ties}
-use Rattle.mz_bag.specs.contracts.datum.DatumOrd.TheImpl.Laws.{matches_eq-law}
-use Rattle.mz_bag.specs.Datum.{datum_cmp}
-use Rattle.mz_bag.specs.Row.{row_eq}
-use Rattle.mz_bag.specs.RowOrder.{cmp-derived}
-use Rattle.mz_bag.proofs.row.RowPartialEq.eq.Goals as goal
+use Rattle.mz_value.specs.contracts.datum.DatumOrd.TheImpl.Laws.{matches_eq-law}
+use Rattle.mz_value.specs.Datum.{datum_cmp}
+use Rattle.mz_value.specs.Row.{row_eq}
+use Rattle.mz_value.specs.RowOrder.{cmp-derived}
+use Rattle.mz_value.proofs.row.RowPartialEq.eq.Goals as goal
 
 -- lists of values are equal where they tie
 pub returns : goal.returns

@@ -1,0 +1,4 @@
+pub mod Datum
+pub mod Name
+pub mod Row
+pub mod RowOrder
