@@ -7,12 +7,12 @@ use Rattle.std.specs.declared.cmp.Ordering.TheVariants.{Less, Equal, Greater}
 use Rattle.std.specs.Cmp.{signed_Decides}
 use Rattle.std.specs.List.{AllByRecursion, IsDistinct}
 use Rattle.std.specs.Map.{keys_of}
-use Rattle.std.specs.FinMap.{empty, entries, get, insert, remove, find, is_sorted, same_map, get-empty, get-insert, get-remove, get-from_entries, get-entries, entries_sorted}
+use Rattle.std.specs.FinMap.{empty, entries, get, insert, remove, find, is_sorted, same_map, get-empty, get-insert, get-remove, get-from_entries, get-entries, entries_sorted, len-entries, len-empty}
 use Rattle.std.specs.FinMap.Entries.{below_all}
 use Rattle.std.proofs.lemmas.Map.Keys.{IsDistinct-head, IsDistinct-tail}
-use Rattle.mz_bag.specs.declared.datum.Datum.{Datum}
-use Rattle.mz_bag.specs.Row.{row_cmp, row_eq}
-use Rattle.mz_bag.specs.RowOrder.{row_total, row_exact, row_eq-Decides}
+use Rattle.mz_value.specs.declared.datum.Datum.{Datum}
+use Rattle.mz_value.specs.Row.{row_cmp, row_eq}
+use Rattle.mz_value.specs.RowOrder.{row_total, row_exact, row_eq-Decides}
 use Rattle.mz_bag.specs.Bag.{Counts, count_in, with_count, map_of, IsBag}
 use Rattle.mz_bag.specs.Weighted.{Weighted, count, bag_of, each_once, negated, sum_of, negation_of}
 
@@ -59,6 +59,15 @@ IsBag-empty = record { no_zero = λ q h. let none : get (empty {X = ℤ} {R = ro
 -- the bag without a row counts nothing
 pub count_in-empty : (q : List Datum) → count_in empty q ≡ pos 0
 count_in-empty q = ap (λ o. unwrap_or o (pos 0)) (get-empty row_cmp q)
+
+-- a list of length 0 has nothing in it
+nothing : (es : Weighted) → length es ≡ 0 → es ≡ []
+nothing [] h = refl
+nothing (e ∷ es) h = cc
+
+-- nor has it an entry
+pub entries-empty : entries (empty {X = ℤ} {R = row_cmp}) ≡ []
+entries-empty = nothing _ (sym (len-entries empty) ∙ len-empty row_cmp ℤ)
 
 -- what is not Some 0 is told by its number
 told : (o p : Option ℤ) → o ≢ Some (pos 0) → p ≢ Some (pos 0) → unwrap_or o (pos 0) ≡ unwrap_or p (pos 0) → o ≡ p

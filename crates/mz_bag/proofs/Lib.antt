@@ -1,5 +1,5 @@
 pub mod BagLaws
-pub mod NameText
+pub mod MassLaws
 pub mod NegatedCounts
 pub mod SortedCounts
 pub mod StoredCounts

@@ -6,9 +6,9 @@ use Rattle.std.specs.List.{IsDistinct}
 use Rattle.std.specs.Map.{keys_of, values_of, lookup}
 use Rattle.std.proofs.lemmas.Map.Entries.{lookup_from_place}
 use Rattle.indexmap.specs.IndexMap.{set_value_at}
-use Rattle.mz_bag.specs.declared.datum.Datum.{Datum}
-use Rattle.mz_bag.specs.Row.{row_eq}
-use Rattle.mz_bag.specs.RowOrder.{row_equiv}
+use Rattle.mz_value.specs.declared.datum.Datum.{Datum}
+use Rattle.mz_value.specs.Row.{row_eq}
+use Rattle.mz_value.specs.RowOrder.{row_equiv}
 use Rattle.mz_bag.specs.Bag.{count_in, map_of, Fits, IsStored}
 use Rattle.mz_bag.specs.Weighted.{Weighted, negated, negation_of}
 use Rattle.mz_bag.proofs.BagLaws.{same_counts, IsBag-negation_of, count_in-negation_of}

@@ -14,9 +14,9 @@ use Rattle.std.proofs.lemmas.List.Sorted.{IsPermutation-map, IsPermutation-sym, 
 use Rattle.std.proofs.lemmas.List.{get_or-map}
 use Rattle.std.proofs.lemmas.Map.Entries.{length-keys_of}
 use Rattle.std.proofs.lemmas.Option.{slice_get_within, get_or_from_slice_get, slice_get-get_or}
-use Rattle.mz_bag.specs.declared.datum.Datum.{Datum}
-use Rattle.mz_bag.specs.Row.{row_cmp, row_eq}
-use Rattle.mz_bag.specs.RowOrder.{row_total, row_exact, row_equiv, row_eq-Decides}
+use Rattle.mz_value.specs.declared.datum.Datum.{Datum}
+use Rattle.mz_value.specs.Row.{row_cmp, row_eq}
+use Rattle.mz_value.specs.RowOrder.{row_total, row_exact, row_equiv, row_eq-Decides}
 use Rattle.mz_bag.specs.Bag.{map_of}
 use Rattle.mz_bag.specs.Weighted.{Weighted}
 use Rattle.mz_bag.proofs.StoredCounts.{find-lookup, get-map_of}

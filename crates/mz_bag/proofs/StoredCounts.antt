@@ -7,9 +7,9 @@ use Rattle.std.specs.Ordering.{int_eq}
 use Rattle.std.specs.Cmp.{signed_Decides}
 use Rattle.std.specs.Map.{keys_of, lookup}
 use Rattle.std.specs.FinMap.{empty, find, get, insert, remove, len, same_map, get-insert, get-remove, get-from_entries, len-empty, len-insert}
-use Rattle.mz_bag.specs.declared.datum.Datum.{Datum}
-use Rattle.mz_bag.specs.Row.{row_cmp, row_eq}
-use Rattle.mz_bag.specs.RowOrder.{row_total, row_exact, row_equiv}
+use Rattle.mz_value.specs.declared.datum.Datum.{Datum}
+use Rattle.mz_value.specs.Row.{row_cmp, row_eq}
+use Rattle.mz_value.specs.RowOrder.{row_total, row_exact, row_equiv}
 use Rattle.mz_bag.specs.Bag.{Counts, count_in, with_count, map_of, Fits, IsStored}
 use Rattle.mz_bag.specs.Weighted.{Weighted, count}
 use Rattle.mz_bag.proofs.BagLaws.{count_in-with_count, count_in-added, count_in-empty, count-distinct, count_in-map_of, find-absent, IsBag-with_count, IsBag-empty}

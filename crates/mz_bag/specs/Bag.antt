@@ -1,9 +1,9 @@
 -- Bags of rows: how often each row is there.
-use Rattle.std.specs.Prelude.{◌≢◌, ◌^◌, ℤ, pos, neg_ℤ, ◌≤ℤ◌, ◌+ℤ◌, List, Some, unwrap_or, if◌then◌else◌}
+use Rattle.std.specs.Prelude.{ℕ, ◌≢◌, ◌^◌, ℤ, pos, neg_ℤ, ◌≤ℤ◌, ◌+ℤ◌, List, Some, unwrap_or, if◌then◌else◌}
 use Rattle.std.specs.Ordering.{int_eq}
 use Rattle.std.specs.FinMap.{FinMap, get, insert, remove, from_entries}
-use Rattle.mz_bag.specs.declared.datum.Datum.{Datum}
-use Rattle.mz_bag.specs.Row.{row_cmp}
+use Rattle.mz_value.specs.declared.datum.Datum.{Datum}
+use Rattle.mz_value.specs.Row.{row_cmp}
 
 -- a bag as the map from each row that is there to its count
 abbrev pub Counts : Type 0
@@ -21,10 +21,14 @@ count_in bag row = unwrap_or (get bag row) (pos 0)
 abbrev pub with_count : Counts → List Datum → ℤ → Counts
 with_count bag row n = if int_eq n (pos 0) then remove bag row else insert bag row n
 
--- the bound on every count: from -2^100 to 2^100
+-- the greatest count of a row
+abbrev pub most_count : ℕ
+most_count = 2 ^ 100
+
+-- the bound on every count: from the negative of the greatest to the greatest
 pub record Fits (z : ℤ) : Type 0 where
-  pub low : neg_ℤ (pos (2 ^ 100)) ≤ℤ z
-  pub high : z ≤ℤ pos (2 ^ 100)
+  pub low : neg_ℤ (pos most_count) ≤ℤ z
+  pub high : z ≤ℤ pos most_count
 
 -- no row is there with the count 0
 pub record IsBag (bag : Counts) : Type 0 where

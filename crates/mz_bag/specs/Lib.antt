@@ -1,6 +1,3 @@
 pub mod Bag
-pub mod Datum
-pub mod Name
-pub mod Row
-pub mod RowOrder
+pub mod Mass
 pub mod Weighted

@@ -1,8 +1,8 @@
 -- Weighted lists of rows, and the bags that they make.
 use Rattle.std.specs.Prelude.{ℤ, pos, neg_ℤ, ◌+ℤ◌, List, [], ◌∷◌, ◌++◌, map, if◌then◌else◌}
 use Rattle.std.specs.FinMap.{empty, entries}
-use Rattle.mz_bag.specs.declared.datum.Datum.{Datum}
-use Rattle.mz_bag.specs.Row.{row_eq}
+use Rattle.mz_value.specs.declared.datum.Datum.{Datum}
+use Rattle.mz_value.specs.Row.{row_eq}
 use Rattle.mz_bag.specs.Bag.{Counts, count_in, with_count}
 
 -- rows with a weight each, where a row may stand at several places

@@ -4,17 +4,23 @@ ghost use Rattle.std.specs.List.{IsDistinct};
 ghost use Rattle.std.specs.Map.{keys_of};
 ghost use Rattle.std.specs.FinMap as map;
 ghost use Rattle.indexmap.specs.IndexMap.{keys, spare, IsUnchanged};
-ghost use Rattle.mz_bag.specs.declared.datum.Datum.{Datum};
-ghost use Rattle.mz_bag.specs.Row.{row_eq};
+ghost use Rattle.mz_value.specs.declared.datum.Datum.{Datum};
+ghost use Rattle.mz_value.specs.Row.{row_eq};
 ghost use Rattle.mz_bag.specs.Bag.{count_in, with_count, map_of, Fits, FitsWith, IsStored};
 ghost use Rattle.mz_bag.specs.Weighted.{count, negated, sum_of, negation_of};
 
-use crate::{CountedRows, Row, Rows};
 use indexmap::IndexMap;
+use mz_value::{Listed, Row, Rows, TryCopy};
 use std::alloc::{AllocError, Global};
 use std::marker::Model;
 
-/// How often each row is there, as a count from -2^100 to 2^100 that is never 0.
+/// The greatest count of a row. Each count is from its negative to it.
+pub const MOST_COUNT: u128 = 1 << 100;
+
+/// Rows with a count each, as a bag has them.
+pub type CountedRows = Listed<(Row, i128)>;
+
+/// How often each row is there, as a count that is never 0 and at most [`MOST_COUNT`] in size.
 #[derive(Drop)]
 pub struct Bag {
     // Each row that is there with its count, in no order that shows.
@@ -24,7 +30,7 @@ pub struct Bag {
 impl Model for Bag {
     ghost use Rattle.std.specs.Coded.{coded_list, coded_ℤ};
     ghost use Rattle.std.specs.FinMap as map;
-    ghost use Rattle.mz_bag.specs.contracts.datum.Datum as datum;
+    ghost use Rattle.mz_value.specs.contracts.datum.Datum as datum;
     ghost use Rattle.mz_bag.specs.Bag.{Counts, map_of, IsStored};
 
     ghost Value = { Counts };
@@ -131,16 +137,35 @@ fn merge_into(
     Ok(())
 }
 
+// The rows with their counts, in no certain order. No row is copied.
+fn moved_counts(counts: IndexMap<Row, i128>) -> Result<Vec<(Row, i128)>, AllocError>
+    ensures items { IfOk result (λ moved. moved.items ≡ counts.entries) }
+    ensures once { IsDistinct row_eq (keys counts) }
+{
+    let mut moved = Vec::with_capacity(*counts.allocator(), counts.len())?;
+    for row in counts {
+        moved.push(row)?;
+    }
+    Ok(moved)
+}
+
 // The rows with their counts, in the order of the rows.
+fn sorted(mut rows: Vec<(Row, i128)>) -> Vec<(Row, i128)>
+    requires { IsDistinct row_eq (keys_of rows.items) }
+    ensures { result.items ≡ map.entries (map_of rows.items) }
+{
+    rows.sort_unstable();
+    rows
+}
+
+// A copy of the rows with their counts, in the order of the rows.
 fn sorted_counts(
     alloc: Global,
     counts: &IndexMap<Row, i128>,
 ) -> Result<Vec<(Row, i128)>, AllocError>
     ensures { IfOk result (λ rows. rows.items ≡ map.entries (map_of counts.now.entries)) }
 {
-    let mut rows = copied_counts(alloc, counts)?;
-    rows.sort_unstable();
-    Ok(rows)
+    Ok(sorted(copied_counts(alloc, counts)?))
 }
 
 // The rows without their counts.
@@ -235,6 +260,23 @@ impl Bag {
     {
         let rows = sorted_counts(*self.counts.allocator(), &self.counts)?;
         Ok(CountedRows::from_vec(rows))
+    }
+
+    /// The distinct rows with their counts, in order of values. No row is copied. O(n log n), where the bag has n rows.
+    /// After an `Err` the bag is gone.
+    pub fn into_counted(self) -> Result<CountedRows, AllocError>
+        ensures rows { IfOk result (λ rows. rows ≡ map.entries self) }
+        ensures stored { IsStored self }
+    {
+        Ok(CountedRows::from_vec(sorted(moved_counts(self.counts)?)))
+    }
+
+    /// The rows with their counts, in no certain order. Takes no memory. O(1).
+    pub fn counts(&self) -> &IndexMap<Row, i128>
+        ensures counts { map_of result.now.entries ≡ self.now }
+        ensures stored { IsStored self.now }
+    {
+        &self.counts
     }
 
     /// How many distinct rows there are. Takes no memory. O(1).

@@ -5,7 +5,7 @@ use Rattle.std.specs.Map.{keys_of}
 use Rattle.std.specs.Vec.Iter.{into_iter_items}
 use Rattle.std.proofs.lemmas.Int.{ints, to_z-of_z}
 use Rattle.std.proofs.lemmas.Map.Keys.{IsDistinct-tail}
-use Rattle.mz_bag.specs.Row.{row_eq}
+use Rattle.mz_value.specs.Row.{row_eq}
 use Rattle.mz_bag.specs.Bag.{count_in, with_count, map_of, Fits, IsBag}
 use Rattle.mz_bag.specs.Weighted.{Weighted, count}
 use Rattle.mz_bag.proofs.BagLaws.{IsBag-with_count}

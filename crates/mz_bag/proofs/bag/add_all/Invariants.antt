@@ -3,8 +3,8 @@ use Rattle.std.specs.List.{IsDistinct}
 use Rattle.std.specs.Map.{keys_of}
 use Rattle.std.specs.Vec.Iter.{into_iter_items}
 use Rattle.indexmap.specs.IndexMap.{spare}
-use Rattle.mz_bag.specs.declared.datum.Datum.{Datum}
-use Rattle.mz_bag.specs.Row.{row_eq}
+use Rattle.mz_value.specs.declared.datum.Datum.{Datum}
+use Rattle.mz_value.specs.Row.{row_eq}
 use Rattle.mz_bag.specs.Bag.{count_in, map_of, IsBag}
 use Rattle.mz_bag.specs.Weighted.{count}
 use Rattle.mz_bag.proofs.bag.add_all.Given as goal

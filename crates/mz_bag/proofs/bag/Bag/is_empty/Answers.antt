@@ -1,7 +1,7 @@
 use Rattle.std.proofs.Common.{◌≡◌, ℤ, ap, sym, ◌∙◌, arith}
 use Rattle.std.specs.FinMap.{len, empty_of_len, len-empty}
 use Rattle.std.proofs.lemmas.Bool.Decides.{nat_tests}
-use Rattle.mz_bag.specs.Row.{row_cmp}
+use Rattle.mz_value.specs.Row.{row_cmp}
 use Rattle.mz_bag.proofs.bag.Bag.is_empty.Goals as goal
 
 -- a map with no entry is the empty one
