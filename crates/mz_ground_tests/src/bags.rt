@@ -1,31 +1,17 @@
 //! What no clause says: the order and the counts of a bag worked by hand, and that calls succeed.
 ghost use Rattle.std.specs.Prelude.{List, IfOk, FitsSigned};
 ghost use Rattle.std.specs.Int.{w32};
-ghost use Rattle.mz_bag.specs.declared.datum.Datum.{Datum};
+ghost use Rattle.mz_value.specs.declared.datum.Datum.{Datum};
 ghost use Rattle.mz_bag.specs.Bag.{count_in};
 
-use crate::{Bag, CountedRows, Datum, Name, Row, Rows, Statement, Text, is_name};
+use mz_bag::{Bag, CountedRows};
+use mz_value::{Datum, Row, Text};
 use std::alloc::{AllocError, Global};
 use std::process::Abort;
 use std::test::Fail;
 
 fn text(alloc: Global, text: &str) -> Result<Datum, AllocError> {
     Ok(Datum::Text(Text::from_string(String::from_str(alloc, text)?)))
-}
-
-// The rows of one column, in order of values.
-fn cells(alloc: Global) -> Result<[Datum; 9], AllocError> {
-    Ok([
-        Datum::Int(-2),
-        Datum::Int(10),
-        text(alloc, "")?,
-        text(alloc, "Z")?,
-        text(alloc, "a")?,
-        Datum::Bool(false),
-        Datum::Bool(true),
-        Datum::Wide(-1_000_000_000_000),
-        Datum::Wide(7),
-    ])
 }
 
 fn row(alloc: Global, number: i32, string: &str) -> Result<Row, AllocError> {
@@ -59,15 +45,6 @@ fn counted(alloc: Global, pairs: &[(i32, &str, i128)]) -> Result<CountedRows, Al
         rows.push((row(alloc, number, string)?, count))?;
     }
     Ok(CountedRows::from_vec(rows))
-}
-
-#[test]
-fn values_are_in_order(rt: HostRuntime) -> Result<(), Fail> {
-    let cells = Vec::from_array(rt.alloc(), cells(rt.alloc())?)?;
-    for place in 1..cells.len() {
-        assert!(rt; cells[place - 1] < cells[place], "before {place}");
-    }
-    Ok(())
 }
 
 #[test]
@@ -112,42 +89,19 @@ fn a_merge_adds_and_cancels(rt: HostRuntime) -> Result<(), Fail> {
 }
 
 #[test]
-fn names_are_lowered_words(rt: HostRuntime) -> Result<(), Fail> {
-    let long = "abcdefghijklmnopqrstuvwxyz_0123456789_abcdefghijklmnopqrstuvwxy";
-    let longer = "abcdefghijklmnopqrstuvwxyz_0123456789_abcdefghijklmnopqrstuvwxyz";
-    let words = [
-        ("a", true),
-        ("_", true),
-        ("r1_x", true),
-        (long, true),
-        ("", false),
-        ("1r", false),
-        ("Kv", false),
-        ("a-b", false),
-        ("caf\u{e9}", false),
-        (longer, false),
-    ];
-    for (word, wanted) in words {
-        let bytes = word.as_bytes();
-        assert_eq!(rt; is_name(bytes), wanted, "{word}");
-        if is_name(bytes) {
-            let name = Name::new(rt.alloc(), bytes)?.try_copy(rt.alloc())?;
-            assert_eq!(rt; format!(in rt.alloc(); "{name}")?.as_str(), word);
-        }
-    }
+fn a_bag_gives_up_its_rows_in_order(rt: HostRuntime) -> Result<(), Fail> {
+    let bag = bag(&rt, rt.alloc(), [(2, "b", 1), (1, "", 3)].as_slice())?;
+    assert_eq!(rt; bag.counts().len(), 2);
+    let wanted = [(1, "", 3), (2, "b", 1)];
+    assert_eq!(rt;
+        bag.into_counted()?,
+        counted(rt.alloc(), wanted.as_slice())?
+    );
     Ok(())
 }
 
 #[test]
-fn a_statement_is_copied_with_its_rows(rt: HostRuntime) -> Result<(), Fail> {
-    let rows = Rows::from_vec(vec![in rt.alloc();
-        row(rt.alloc(), 1, "a")?,
-        row(rt.alloc(), 1, "a")?,
-    ]?);
-    assert!(rt; !rows.is_empty());
-    let insert = Statement::Insert(rows);
-    assert_eq!(rt; insert.try_copy(rt.alloc())?, insert);
-    assert_eq!(rt; Statement::Select.try_copy(rt.alloc())?, Statement::Select);
+fn counted_rows_are_copied(rt: HostRuntime) -> Result<(), Fail> {
     let pairs = counted(rt.alloc(), [(1, "a", 2)].as_slice())?;
     assert_eq!(rt; pairs.try_copy(rt.alloc())?, pairs);
     assert_eq!(rt; pairs.into_vec().len(), 1);

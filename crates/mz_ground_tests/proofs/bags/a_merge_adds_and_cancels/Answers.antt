@@ -2,7 +2,7 @@ use Rattle.std.proofs.Common.{SFits, arith}
 use Rattle.std.specs.Int.{w32}
 use Rattle.std.proofs.lemmas.Int.{ints}
 use Rattle.mz_bag.specs.Bag.{count_in}
-use Rattle.mz_bag.proofs.tests.a_merge_adds_and_cancels.Goals as goal
+use Rattle.mz_ground_tests.proofs.bags.a_merge_adds_and_cancels.Goals as goal
 
 -- small counts have a small sum
 pub merge-requires : goal.merge-requires

@@ -1,11 +1,11 @@
 use Rattle.std.proofs.Common.{◌≡◌, Bool, true, false, cond, ℤ, ◌+ℤ◌, List, Result, Ok, Err, OnOk, OnErr, FitsSigned, SFits, sym, subst, rules}
 use Rattle.std.specs.Int.{w32, w128}
 use Rattle.std.proofs.lemmas.Int.{ints, to_z-of_z}
-use Rattle.mz_bag.specs.declared.datum.Datum.{Datum}
-use Rattle.mz_bag.specs.Row.{row_eq}
+use Rattle.mz_value.specs.declared.datum.Datum.{Datum}
+use Rattle.mz_value.specs.Row.{row_eq}
 use Rattle.mz_bag.specs.Bag.{Counts, count_in, with_count}
 use Rattle.mz_bag.proofs.BagLaws.{count_in-with_count}
-use Rattle.mz_bag.proofs.tests.add.Goals as goal
+use Rattle.mz_ground_tests.proofs.bags.add.Goals as goal
 
 -- a small count that is set leaves each count small
 small_set : {E : Type 0} (r : Result (Unit {0}) E) (old new : Counts) (row : List Datum) (n : ℤ) → OnOk r (new ≡ with_count old row n) → OnErr r (new ≡ old) → FitsSigned w32 n → ((q : List Datum) → FitsSigned w32 (count_in old q)) → (q : List Datum) → FitsSigned w32 (count_in new q)

@@ -3,7 +3,7 @@ use Rattle.std.specs.Int.{w32}
 use Rattle.std.proofs.lemmas.Int.{ints}
 use Rattle.mz_bag.specs.Bag.{Counts, count_in}
 use Rattle.mz_bag.proofs.BagLaws.{count_in-empty}
-use Rattle.mz_bag.proofs.tests.bag.Goals as goal
+use Rattle.mz_ground_tests.proofs.bags.bag.Goals as goal
 
 -- at first nothing is counted
 pub changes-init : goal.changes-init

@@ -1,8 +1,8 @@
 use Rattle.std.proofs.Common.{List, FitsSigned}
 use Rattle.std.specs.Int.{w32}
-use Rattle.mz_bag.specs.declared.datum.Datum.{Datum}
+use Rattle.mz_value.specs.declared.datum.Datum.{Datum}
 use Rattle.mz_bag.specs.Bag.{count_in}
-use Rattle.mz_bag.proofs.tests.bag.Given as goal
+use Rattle.mz_ground_tests.proofs.bags.bag.Given as goal
 
 -- each count so far is small
 abbrev pub invariant-changes : goal.invariant-changes
