@@ -7,7 +7,7 @@ use Rattle.mz_lex.specs.declared.token.TokenKind.TheVariants.{Word, Number, Quot
 use Rattle.mz_lex.specs.Bytes.{is_word_start, is_word_byte, is_quote, starts}
 use Rattle.mz_lex.specs.Quoted.{doubled, quoted, is_one_line}
 use Rattle.mz_lex.specs.Reach.{plus, closing, quoted_reach}
-use Rattle.mz_lex.specs.Spelling.{is_single, is_double, goes_on, Begins, BeginsWith, BeginsNo}
+use Rattle.mz_lex.specs.Spelling.{is_single, is_double, goes_on, Begins, BeginsWith, BeginsNo, longest_word}
 use Rattle.mz_lex.proofs.RunLemmas.{split_run, prefix_len-run}
 
 -- how far a sign reaches
@@ -47,7 +47,7 @@ starts-run p q [] (b ∷ bs) implies is stops = let goes_on = implies b is in cc
 starts-run p q (b ∷ front) after implies is stops = is
 
 -- the word at the front, which is not too long
-pub word_found : (bs : List ℕ) → starts is_word_start bs ≡ true → prefix_len is_word_byte bs ≤ 63 → BeginsWith Word bs (prefix_len is_word_byte bs)
+pub word_found : (bs : List ℕ) → starts is_word_start bs ≡ true → prefix_len is_word_byte bs ≤ longest_word → BeginsWith Word bs (prefix_len is_word_byte bs)
 word_found bs start short =
     let run = split_run is_word_byte bs in
     let long = ap (prefix_len is_word_byte) run.parts ∙ prefix_len-run is_word_byte run.front run.after run.passes run.stops in

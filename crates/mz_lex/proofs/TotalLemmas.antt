@@ -8,7 +8,7 @@ use Rattle.mz_lex.specs.declared.token.TokenKind.TheVariants.{Word, Number, Quot
 use Rattle.mz_lex.specs.declared.token.Token.{Token}
 use Rattle.mz_lex.specs.Bytes.{is_blank, is_word_start, is_word_byte, starts}
 use Rattle.mz_lex.specs.Reach.{quoted_reach}
-use Rattle.mz_lex.specs.Spelling.{is_single, is_double, Begins, BeginsWith, BeginsNo}
+use Rattle.mz_lex.specs.Spelling.{is_single, is_double, Begins, BeginsWith, BeginsNo, longest_word}
 use Rattle.mz_lex.specs.Cut.{AreTokens, IsCutInto}
 use Rattle.mz_lex.specs.Fault.{IsStuck, IsFirstFault}
 use Rattle.mz_lex.proofs.RunLemmas.{split_run}
@@ -39,7 +39,7 @@ number_start_no bs other front rest parts token =
     cc
 
 -- no word where the run is too long
-word_long_no : (bs : List ℕ) → 63 < prefix_len is_word_byte bs → BeginsNo Word bs
+word_long_no : (bs : List ℕ) → longest_word < prefix_len is_word_byte bs → BeginsNo Word bs
 word_long_no bs too_long front rest parts token =
     let long = word_long front rest token in
     let whole = ap (prefix_len is_word_byte) parts in
@@ -47,13 +47,13 @@ word_long_no bs too_long front rest parts token =
     omega arith
 
 -- a word where the run is short enough
-word_short_or : (bs : List ℕ) → starts is_word_start bs ≡ true → ((prefix_len is_word_byte bs < 64) ⊎ (64 ≤ prefix_len is_word_byte bs)) → Decided Word bs
+word_short_or : (bs : List ℕ) → starts is_word_start bs ≡ true → ((prefix_len is_word_byte bs < longest_word + 1) ⊎ (longest_word + 1 ≤ prefix_len is_word_byte bs)) → Decided Word bs
 word_short_or bs start (inl short) = inl (prefix_len is_word_byte bs, word_found bs start (omega arith))
 word_short_or bs start (inr long) = inr (word_long_no bs (omega arith))
 
 -- a word, by the first byte
 word_or_no : (bs : List ℕ) (t : Bool) → starts is_word_start bs ≡ t → Decided Word bs
-word_or_no bs true start = word_short_or bs start (order (prefix_len is_word_byte bs) 64)
+word_or_no bs true start = word_short_or bs start (order (prefix_len is_word_byte bs) (longest_word + 1))
 word_or_no bs false start = inr (word_start_no bs start)
 
 -- a number, by the first byte

@@ -7,11 +7,15 @@ use Rattle.mz_lex.specs.declared.token.TokenKind.TheVariants.{Word, Number, Quot
 use Rattle.mz_lex.specs.Bytes.{is_word_start, is_word_byte, is_quote, starts}
 use Rattle.mz_lex.specs.Quoted.{IsQuoted}
 
--- a letter or an underscore, then letters, underscores and digits, 63 bytes at most
+-- the most bytes that a word has
+abbrev pub longest_word : ℕ
+longest_word = 63
+
+-- a letter or an underscore, then letters, underscores and digits, no longer than may be
 pub record IsWord (bs : List ℕ) : Type 0 where
   pub start : IsTrue (starts is_word_start bs)
   pub bytes : IsTrue (list_all is_word_byte bs)
-  pub short : length bs ≤ 63
+  pub short : length bs ≤ longest_word
 
 -- one digit or more
 pub record IsNumber (bs : List ℕ) : Type 0 where

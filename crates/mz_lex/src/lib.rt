@@ -7,8 +7,6 @@ mod fault;
 pub mod laws;
 mod lexer;
 mod scan;
-#[cfg(test)]
-mod tests;
 mod token;
 mod value;
 

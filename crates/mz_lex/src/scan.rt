@@ -10,6 +10,7 @@ ghost use Rattle.mz_lex.specs.Spelling.{is_single, is_double, Reaches, Finds};
 
 use crate::token::TokenKind;
 
+// The most bytes that a word has.
 const LONGEST_WORD: usize = 63;
 
 fn is_blank(byte: u8) -> bool
