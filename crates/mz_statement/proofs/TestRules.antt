@@ -121,3 +121,6 @@ compares_of_any (test ∷ tests) = ap (λ T. Compares test × T) (compares_of_an
 pub compares_of_not : (test : Test) → Compares (Not test) ≡ Compares test
 unfolding Rattle.mz_statement.specs.declared.condition.Test.TheBlock.hidden-the_row-Test-1 denote.Hole.Carrier.hidden
 compares_of_not test = refl
+
+-- what each form compares
+pub ruleset compares_rules = (compares_of_all, compares_of_any, compares_of_not)

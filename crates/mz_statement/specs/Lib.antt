@@ -1,6 +1,9 @@
 pub mod Item
+pub mod Kind
 pub mod Query
 pub mod Reference
+pub mod Same
+pub mod SameLaws
 pub mod Statement
 pub mod Test
 pub mod Value

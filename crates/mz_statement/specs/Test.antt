@@ -83,8 +83,12 @@ abbrev mutual
   AllCompare end_of-Test = Unit {0}
   AllCompare (more_of-Test test rest) = Compares test × AllCompare rest
 
+-- the most NOTs and parentheses that may be open at once
+abbrev pub greatest_depth : ℕ
+greatest_depth = 64
+
 -- the grammar can spell the test
 pub record IsTest (test : Test) : Type 0 where
   pub normal : is_normal test ≡ true
   pub compares : Compares test
-  pub shallow : depth test ≤ 64
+  pub shallow : depth test ≤ greatest_depth

@@ -1,7 +1,7 @@
 -- The words that are no names, and what a name of a statement is.
 use Rattle.std.specs.Prelude.{ℕ, Bool, ◌≡◌, true, false, List, [], ◌∷◌, Option, codes, bytes_eq, IfSome}
 use Rattle.std.specs.List.{list_any}
-use Rattle.mz_bag.specs.Name.{is_name}
+use Rattle.mz_value.specs.Name.{is_name}
 
 -- the words that have a meaning of their own everywhere, with their letters lowered
 abbrev pub reserved_words : List (List ℕ)

@@ -1,10 +1,14 @@
 //! Conditions on rows, as trees.
 ghost use Rattle.std.specs.Prelude.{◌≡◌, ◌&&◌, IfOk, true, nat_le};
 ghost use Rattle.std.specs.List.{list_all};
+ghost use Rattle.std.specs.Bool.{Decides};
+ghost use Rattle.std.specs.Cmp.{partial_equiv_from_equiv};
+ghost use Rattle.mz_statement.specs.Same.{same_test};
+ghost use Rattle.mz_statement.specs.SameLaws.{same_test_equiv};
 ghost use Rattle.mz_statement.specs.Test.{is_all, is_any, is_joined, is_normal, is_member, depth, closed_depth, deepest_of};
 
 use crate::ColumnName;
-use mz_bag::Datum;
+use mz_value::{Datum, TryCopy};
 use sqlite_items::{Boxed, Items};
 use std::alloc::{AllocError, Global};
 use std::marker::Model;
@@ -72,6 +76,21 @@ fn copied_tests(alloc: Global, tests: &[Test]) -> Result<Vec<Test>, AllocError>
     Ok(copy)
 }
 
+// Whether the tests are the same, in the same order.
+#[cycle(same)]
+fn are_same(one: &[Test], other: &[Test]) -> bool
+    ensures { Decides result (one.now ≡ other.now) }
+{
+    let mut rest = other;
+    'tests: for test in one {
+        match rest {
+            [first, others @ ..] if test.is_same(first) => rest = others,
+            _ => return false,
+        }
+    }
+    rest.is_empty()
+}
+
 // Whether each test may stand in a list that is joined by AND, or else by OR.
 #[cycle(normal)]
 fn are_members(by_and: bool, tests: &[Test]) -> bool
@@ -99,17 +118,17 @@ fn are_within(by_and: bool, tests: &[Test], limit: u64) -> bool
 }
 
 impl Test {
-    // Whether the test is a list that is joined by AND.
+    /// Whether the test is a list that is joined by AND. Takes no memory.
     #[tactic(auto, using(crate::proofs::TestRules::word_rules))]
-    fn is_all(&self) -> bool
+    pub fn is_all(&self) -> bool
         ensures { result ≡ is_all self.now }
     {
         matches!(self, Test::All(_))
     }
 
-    // Whether the test is a list that is joined by OR.
+    /// Whether the test is a list that is joined by OR. Takes no memory.
     #[tactic(auto, using(crate::proofs::TestRules::word_rules))]
-    fn is_any(&self) -> bool
+    pub fn is_any(&self) -> bool
         ensures { result ≡ is_any self.now }
     {
         matches!(self, Test::Any(_))
@@ -167,6 +186,22 @@ impl Test {
         }
     }
 
+    // Whether the tests are the same. It reads both. Takes no memory.
+    #[cycle(same)]
+    fn is_same(&self, other: &Test) -> bool
+        ensures { Decides result (self.now ≡ other.now) }
+    {
+        match (self, other) {
+            (Test::All(tests), Test::All(others)) => are_same(tests.as_slice(), others.as_slice()),
+            (Test::Any(tests), Test::Any(others)) => are_same(tests.as_slice(), others.as_slice()),
+            (Test::Not(test), Test::Not(other)) => test.get().is_same(other.get()),
+            (Test::Compare(column, op, side), Test::Compare(other, by, what)) => {
+                column == other && op == by && side == what
+            }
+            _ => false,
+        }
+    }
+
     /// A copy of the test.
     #[cycle(copy)]
     pub fn try_copy(&self, alloc: Global) -> Result<Test, AllocError>
@@ -181,6 +216,20 @@ impl Test {
             }
         })
     }
+}
+
+impl PartialEq for Test {
+    ghost eq = { same_test };
+
+    ghost laws = { partial_equiv_from_equiv same_test_equiv };
+
+    fn eq(&self, other: &Test) -> bool {
+        self.is_same(other)
+    }
+}
+
+impl Eq for Test {
+    ghost laws = { same_test_equiv };
 }
 
 /// A test in normal form: each list of an `All` or `Any` has two tests or more, and none that is
@@ -204,6 +253,20 @@ impl Model for Condition {
     ghost view = { λ c. c.test };
 
     ghost invariant = { λ c. is_normal c.test ≡ true };
+}
+
+impl PartialEq for Condition {
+    ghost eq = { same_test };
+
+    ghost laws = { partial_equiv_from_equiv same_test_equiv };
+
+    fn eq(&self, other: &Condition) -> bool {
+        self.test == other.test
+    }
+}
+
+impl Eq for Condition {
+    ghost laws = { same_test_equiv };
 }
 
 impl Condition {

@@ -2,11 +2,12 @@
 ghost use Rattle.std.specs.Prelude.{◌≡◌, ◌<◌, length, IfOk};
 
 use crate::{ColumnNames, Condition, Joins, Reference, SelectItems};
+use mz_value::{TryCopy, copied};
 use std::alloc::{AllocError, Global};
 use std::marker::Model;
 
 /// One select.
-#[derive(Debug, Drop)]
+#[derive(Debug, PartialEq, Eq, Drop)]
 pub struct Select {
     /// Whether each row is given once only.
     pub distinct: bool,
@@ -48,11 +49,8 @@ pub(crate) fn copied_condition(
     })
 }
 
-impl Select {
-    /// A copy of the select.
-    pub fn try_copy(&self, alloc: Global) -> Result<Select, AllocError>
-        ensures { IfOk result (λ copy. copy ≡ self.now) }
-    {
+impl TryCopy for Select {
+    fn try_copy(&self, alloc: Global) -> Result<Select, AllocError> {
         Ok(Select {
             distinct: self.distinct,
             items: copied_some_items(alloc, &self.items)?,
@@ -85,17 +83,6 @@ impl Model for Query {
     ghost invariant = { λ q. 0 < length q.selects.items };
 }
 
-// A copy of the selects.
-fn copied_selects(alloc: Global, selects: &[Select]) -> Result<Vec<Select>, AllocError>
-    ensures { IfOk result (λ copy. copy.items ≡ selects.now) }
-{
-    let mut copy = Vec::with_capacity(alloc, selects.len())?;
-    for select in selects {
-        copy.push(select.try_copy(alloc)?)?;
-    }
-    Ok(copy)
-}
-
 impl Query {
     /// The query of these selects. Takes no memory.
     pub fn from_vec(selects: Vec<Select>) -> Query
@@ -126,7 +113,27 @@ impl Query {
         ensures { IfOk result (λ copy. copy ≡ self.now) }
     {
         Ok(Query {
-            selects: copied_selects(alloc, &self.selects)?,
+            selects: copied(alloc, &self.selects)?,
         })
     }
+}
+
+impl PartialEq for Query {
+    ghost use Rattle.std.specs.Cmp.Lexicographic.{pointwise, lists_per};
+    ghost use Rattle.mz_statement.specs.contracts.query.SelectPartialEq.TheImpl.Laws.{laws-law};
+
+    ghost eq = { pointwise ⟦<Select as PartialEq>⟧.eq };
+
+    ghost laws = { lists_per laws-law };
+
+    fn eq(&self, other: &Query) -> bool {
+        self.selects == other.selects
+    }
+}
+
+impl Eq for Query {
+    ghost use Rattle.std.specs.Cmp.Lexicographic.{lists_equiv};
+    ghost use Rattle.mz_statement.specs.contracts.query.SelectEq.TheImpl.Laws.{laws-law};
+
+    ghost laws = { lists_equiv laws-law };
 }

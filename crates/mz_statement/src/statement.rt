@@ -1,9 +1,10 @@
 //! Statements, and what a RETAIN keeps.
 ghost use Rattle.std.specs.Prelude.{◌≡◌, IfOk};
+ghost use Rattle.mz_statement.specs.Kind.{kind_of};
 
 use crate::query::copied_condition;
 use crate::{Columns, Condition, Query};
-use mz_bag::{Name, Rows};
+use mz_value::{Name, Rows};
 use std::alloc::{AllocError, Global};
 
 /// How much of its past a relation keeps readable.
@@ -18,7 +19,7 @@ pub enum Keep {
 }
 
 /// What a session may ask for.
-#[derive(Debug, Drop)]
+#[derive(Debug, PartialEq, Eq, Drop)]
 pub enum Statement {
     /// Asks for the rows of a query, at the time behind AS OF where one is named.
     Query(Query, Option<u64>),
@@ -46,6 +47,29 @@ pub enum Statement {
     ShowFrontiers,
     /// Says how much of its past a relation keeps readable.
     Retain(Name, Keep),
+    /// Says whether the session's reads and writes keep real time: true for strict.
+    SetIsolation(bool),
+    /// Says on which cluster the session's queries are computed.
+    SetCluster(Name),
+}
+
+/// What a statement does with the session that gives it.
+#[derive(Clone, Copy, Debug, PartialEq, Eq)]
+pub enum Kind {
+    /// Changes rows, tables, views or indexes.
+    Command,
+    /// Asks for rows.
+    Query,
+    /// BEGIN.
+    Start,
+    /// COMMIT.
+    Commit,
+    /// RETAIN.
+    Retain,
+    /// SHOW FRONTIERS.
+    ShowFrontiers,
+    /// SET, of the isolation or of the cluster.
+    Set,
 }
 
 impl Statement {
@@ -77,6 +101,23 @@ impl Statement {
             Statement::Commit => Statement::Commit,
             Statement::ShowFrontiers => Statement::ShowFrontiers,
             Statement::Retain(name, keep) => Statement::Retain(name.try_copy(alloc)?, *keep),
+            Statement::SetIsolation(strict) => Statement::SetIsolation(*strict),
+            Statement::SetCluster(name) => Statement::SetCluster(name.try_copy(alloc)?),
         })
+    }
+
+    /// The kind of the statement. Takes no memory.
+    pub fn kind(&self) -> Kind
+        ensures { result ≡ kind_of self.now }
+    {
+        match self {
+            Statement::Query(_, _) => Kind::Query,
+            Statement::Start => Kind::Start,
+            Statement::Commit => Kind::Commit,
+            Statement::Retain(_, _) => Kind::Retain,
+            Statement::ShowFrontiers => Kind::ShowFrontiers,
+            Statement::SetIsolation(_) | Statement::SetCluster(_) => Kind::Set,
+            _ => Kind::Command,
+        }
     }
 }
