@@ -5,14 +5,14 @@ use Rattle.std.proofs.lemmas.Bool.{leb-true, le-leb}
 use Rattle.mz_lex.proofs.ReachLemmas.{both, denied}
 use Rattle.mz_statement.specs.declared.condition.Test.{Test}
 use Rattle.mz_statement.specs.declared.condition.Test.TheVariants as test
-use Rattle.mz_statement.specs.Test.{is_all, is_any, is_joined, is_normal, is_member, depth, closed_depth, deepest_of}
+use Rattle.mz_statement.specs.Test.{is_all, is_any, is_joined, is_normal, is_member, depth, closed_depth, deepest_of, greatest_depth}
 use Rattle.mz_statement.proofs.TestRules.{is_any_of_all, is_all_of_any, is_all_of_not, is_any_of_not, depth_of_all, depth_of_any, depth_of_not, normal_of_all, normal_of_any, normal_of_not}
 use Rattle.mz_grammar.specs.declared.key.Key.{Key}
 use Rattle.mz_grammar.specs.declared.key.Key.TheVariants as k
 use Rattle.mz_grammar.specs.declared.token.Tok.{Tok}
 use Rattle.mz_grammar.specs.declared.token.Tok.TheVariants.{Key as K}
 use Rattle.mz_grammar.specs.Joined.{conjuncts, disjuncts, all_of, any_of}
-use Rattle.mz_grammar.specs.Grammar.{Rule, IsMore, IsComparison, IsConjunction, IsDisjunction, IsAtom, IsCondition}
+use Rattle.mz_grammar.specs.Grammar.{Rule, IsMore, SpellsComparison, SpellsConjunction, SpellsDisjunction, SpellsAtom, SpellsCondition}
 use Rattle.mz_grammar.proofs.Forms.{by_form, conjuncts_of_all, conjuncts_alone, disjuncts_of_any, disjuncts_alone}
 
 -- the test is a list
@@ -225,22 +225,22 @@ more_each key Is Can one [] ts rest spelled = tt
 more_each key Is Can one (x ∷ xs) ts rest (us, vs, e, spelled, others) = (one x us vs spelled, more_each key Is Can one xs vs rest others)
 
 -- atoms joined by AND
-conjunction_within : (most : ℕ) (Is : Rule Test) → Assures Is (IsClosedWithin most) → Assures (IsConjunction Is) (IsWithin true most)
+conjunction_within : (most : ℕ) (Is : Rule Test) → Assures Is (IsClosedWithin most) → Assures (SpellsConjunction Is) (IsWithin true most)
 conjunction_within most Is one x ts rest ([], is, listed) = absurd listed
 conjunction_within most Is one x ts rest (y ∷ ys, is, (us, spelled, others)) =
     let each : Each (IsClosedWithin most) (y ∷ ys) = (one y ts us spelled, more_each k.And Is _ one ys us rest others) in
     subst (IsWithin true most) (sym is) (all_within most y ys each)
 
 -- and these joined by OR
-disjunction_within : (most : ℕ) (Is : Rule Test) → Assures Is (IsClosedWithin most) → Assures (IsDisjunction Is) (IsWithin false most)
+disjunction_within : (most : ℕ) (Is : Rule Test) → Assures Is (IsClosedWithin most) → Assures (SpellsDisjunction Is) (IsWithin false most)
 disjunction_within most Is one x ts rest ([], is, listed) = absurd listed
 disjunction_within most Is one x ts rest (y ∷ ys, is, (us, spelled, others)) =
     let inner = conjunction_within most Is one in
-    let each : Each (IsWithin true most) (y ∷ ys) = (inner y ts us spelled, more_each k.Or (IsConjunction Is) _ inner ys us rest others) in
+    let each : Each (IsWithin true most) (y ∷ ys) = (inner y ts us spelled, more_each k.Or (SpellsConjunction Is) _ inner ys us rest others) in
     subst (IsWithin false most) (sym is) (any_within most y ys each)
 
 -- a comparison has no depth
-comparison_within : (most : ℕ) → Assures IsComparison (IsClosedWithin most)
+comparison_within : (most : ℕ) → Assures SpellsComparison (IsClosedWithin most)
 comparison_within most x ts rest (column, op, side, us, is, left, right) =
     subst (IsClosedWithin most) (sym is) (record { normal = refl; shallow = omega arith })
 
@@ -263,14 +263,14 @@ closed_within : (most : ℕ) (whole : Test) → IsWithin false most whole → Is
 closed_within most whole is = record { normal = is.normal; shallow = closed_more (is_list whole) (depth whole) is.shallow }
 
 -- with so many NOTs and parentheses that may still be opened
-atom_within : (most : ℕ) → Assures (IsAtom most) (IsClosedWithin most)
+atom_within : (most : ℕ) → Assures (SpellsAtom most) (IsClosedWithin most)
 atom_within zero x ts rest spelled = comparison_within zero x ts rest spelled
 atom_within (suc most) x ts rest (inl spelled) = comparison_within (suc most) x ts rest spelled
 atom_within (suc most) x ts rest (inr (inl (inner, us, is, e, spelled))) =
     subst (IsClosedWithin (suc most)) (sym is) (negated_within most inner (atom_within most inner us rest spelled))
 atom_within (suc most) x ts rest (inr (inr (us, e, spelled))) =
-    closed_within most x (disjunction_within most (IsAtom most) (atom_within most) x us (K k.Close ∷ rest) spelled)
+    closed_within most x (disjunction_within most (SpellsAtom most) (atom_within most) x us (K k.Close ∷ rest) spelled)
 
--- a condition is normal, and no deeper than 64
-pub condition_within : Assures IsCondition (IsWithin false 64)
-condition_within = disjunction_within 64 (IsAtom 64) (atom_within 64)
+-- a condition is normal, and no deeper than may be
+pub condition_within : Assures SpellsCondition (IsWithin false greatest_depth)
+condition_within = disjunction_within greatest_depth (SpellsAtom greatest_depth) (atom_within greatest_depth)

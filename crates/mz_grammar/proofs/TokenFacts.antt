@@ -17,10 +17,9 @@ use Rattle.mz_lex.proofs.QuotedLemmas.{unquoted-quoted}
 use Rattle.mz_lex.proofs.ReachLemmas.{both}
 use Rattle.mz_statement.specs.Word.{IsName, reserved_words}
 use Rattle.mz_grammar.specs.declared.key.Key.{Key}
-use Rattle.mz_grammar.specs.declared.key.TheConstants.{WORDS}
 use Rattle.mz_grammar.specs.declared.token.Tok.{Tok}
 use Rattle.mz_grammar.specs.declared.token.Tok.TheVariants.{Key as K, Name as N, Number, Text as T}
-use Rattle.mz_grammar.specs.Token.{spelling, is_key, key_among, word_tok, tok_of, toks_of}
+use Rattle.mz_grammar.specs.Token.{spelling, reserved_keys, is_key, key_among, word_tok, tok_of, toks_of}
 use Rattle.mz_grammar.proofs.Words.{word_name}
 
 -- a name is one of a statement, and a text is of one line
@@ -60,13 +59,13 @@ no_word (key ∷ keys) word none =
     λ i. (either_way (lowered word) (lowered (spelling key)) ∙ parts.0) i || no_word keys word parts.1 i
 
 -- the words of the keys are the reserved ones
-all_words : words_of WORDS ≡ reserved_words
+all_words : words_of reserved_keys ≡ reserved_words
 all_words = refl
 
 -- what a word stands for
-word_fits : (bytes : List ℕ) (found : Option Key) → key_among WORDS bytes ≡ found → IsWord bytes → IsTok (word_tok found bytes)
+word_fits : (bytes : List ℕ) (found : Option Key) → key_among reserved_keys bytes ≡ found → IsWord bytes → IsTok (word_tok found bytes)
 word_fits bytes (Some key) is word = tt
-word_fits bytes None is word = record { name = word_name bytes word; free = no_word WORDS bytes is }
+word_fits bytes None is word = record { name = word_name bytes word; free = no_word reserved_keys bytes is }
 
 -- ---- texts
 
@@ -83,7 +82,7 @@ one_line (byte ∷ text) is = let parts = both _ _ is in (no_end byte parts.0, o
 
 -- what bytes of each kind stand for
 tok_fits : (kind : TokenKind) (bytes : List ℕ) → IsToken kind bytes → IsTok (tok_of kind bytes)
-tok_fits kind.Word bytes is = word_fits bytes (key_among WORDS bytes) refl is
+tok_fits kind.Word bytes is = word_fits bytes (key_among reserved_keys bytes) refl is
 tok_fits kind.Number bytes is = tt
 tok_fits kind.Quoted bytes (text, line, e) =
     subst (Each (λ byte. byte ≢ 10)) (sym (ap unquoted e ∙ unquoted-quoted text)) (one_line text line)

@@ -9,7 +9,7 @@ use Rattle.std.proofs.lemmas.Slice.Eq.{bytes_eq-Decides}
 use Rattle.mz_lex.specs.Bytes.{is_word_start, is_word_byte}
 use Rattle.mz_lex.specs.Lowered.{lowered}
 use Rattle.mz_lex.specs.Spelling.{IsWord}
-use Rattle.mz_bag.specs.Name.{begins_name, continues_name, is_name}
+use Rattle.mz_value.specs.Name.{begins_name, continues_name, is_name}
 
 -- whether two texts are equal
 pub ruleset key_tests = (bytes_eq-Decides)

@@ -9,8 +9,8 @@ use Rattle.mz_grammar.specs.declared.token.Tok.{Tok}
 use Rattle.mz_grammar.specs.declared.token.Tok.TheVariants.{Key as K, Number, Text as T}
 use Rattle.mz_grammar.specs.Token.{toks_of}
 use Rattle.mz_grammar.specs.Grammar.{Spells}
-use Rattle.mz_parse.specs.declared.fault.ParseFault.{ParseFault}
-use Rattle.mz_parse.specs.declared.fault.ParseFault.TheVariants.{Syntax, LiteralRange, Memory}
+use Rattle.mz_grammar.specs.declared.fault.ParseFault.{ParseFault}
+use Rattle.mz_grammar.specs.declared.fault.ParseFault.TheVariants.{Syntax, LiteralRange, Memory}
 
 -- some tokens behind the front make it a statement
 abbrev pub Viable : List Tok → Type 0

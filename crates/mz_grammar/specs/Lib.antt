@@ -1,3 +1,5 @@
+pub mod Asked
+pub mod Faults
 pub mod Grammar
 pub mod Joined
 pub mod Token

@@ -11,7 +11,6 @@ use Rattle.mz_lex.specs.Quoted.{unquoted}
 use Rattle.mz_grammar.specs.contracts.key.Key.{the_type}
 use Rattle.mz_grammar.specs.declared.key.Key.{Key}
 use Rattle.mz_grammar.specs.declared.key.Key.TheVariants as k
-use Rattle.mz_grammar.specs.declared.key.TheConstants.{WORDS}
 use Rattle.mz_grammar.specs.declared.token.Tok.{Tok}
 use Rattle.mz_grammar.specs.declared.token.Tok.TheVariants as t
 
@@ -61,6 +60,13 @@ spelling k.Unequal = codes "<>"
 spelling k.Minus = codes "-"
 spelling k.Semicolon = codes ";"
 
+-- the reserved words
+abbrev pub reserved_keys : List Key
+reserved_keys =
+    k.Select ∷ k.Distinct ∷ k.From ∷ k.Join ∷ k.On ∷ k.Where ∷ k.Group ∷ k.By ∷ k.Union ∷ k.All ∷ k.As ∷
+    k.Of ∷ k.And ∷ k.Or ∷ k.Not ∷ k.True ∷ k.False ∷ k.Create ∷ k.Table ∷ k.View ∷ k.Index ∷ k.Drop ∷
+    k.Insert ∷ k.Into ∷ k.Values ∷ k.Delete ∷ k.Begin ∷ k.Commit ∷ k.Retain ∷ k.Show ∷ []
+
 -- whether the word is this key, however its letters are written
 abbrev pub is_key : List ℕ → Key → Bool
 is_key word key = bytes_eq (lowered (spelling key)) (lowered word)
@@ -86,7 +92,7 @@ sign_key [] = k.Semicolon
 
 -- what bytes of this kind stand for
 abbrev pub tok_of : TokenKind → List ℕ → Tok
-tok_of Word bytes = word_tok (key_among WORDS bytes) bytes
+tok_of Word bytes = word_tok (key_among reserved_keys bytes) bytes
 tok_of Number bytes = t.Number (digits_value 10 bytes)
 tok_of Quoted bytes = t.Text (unquoted bytes)
 tok_of Sign bytes = t.Key (sign_key bytes)

@@ -94,7 +94,7 @@ pub enum Key {
 }
 
 /// The reserved words.
-pub const WORDS: [Key; 30] = [
+pub const RESERVED_KEYS: [Key; 30] = [
     Key::Select,
     Key::Distinct,
     Key::From,

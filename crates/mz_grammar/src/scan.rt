@@ -4,9 +4,9 @@ ghost use Rattle.std.specs.List.{slice_range};
 ghost use Rattle.mz_lex.specs.declared.token.Token.{Token};
 ghost use Rattle.mz_lex.specs.Cut.{IsSpan};
 ghost use Rattle.mz_lex.specs.Spelling.{IsWord};
-ghost use Rattle.mz_grammar.specs.Token.{is_key, key_among, word_tok, sign_key, tok_of, toks_of};
+ghost use Rattle.mz_grammar.specs.Token.{reserved_keys, is_key, key_among, word_tok, sign_key, tok_of, toks_of};
 
-use crate::key::{Key, WORDS, spelling};
+use crate::key::{Key, RESERVED_KEYS, spelling};
 use crate::token::{Digits, Quote, Tok, Word};
 use mz_lex::{Token, TokenKind};
 use std::alloc::{AllocError, Global};
@@ -58,9 +58,9 @@ fn sign_key(bytes: &[u8]) -> Key
 #[tactic(auto, using(crate::proofs::Words::word_name))]
 fn word_tok<'a>(bytes: &'a [u8]) -> Tok<'a>
     requires { IsWord bytes.now }
-    ensures { result ≡ word_tok (key_among WORDS bytes.now) bytes.now }
+    ensures { result ≡ word_tok (key_among reserved_keys bytes.now) bytes.now }
 {
-    match key_among(&WORDS, bytes) {
+    match key_among(&RESERVED_KEYS, bytes) {
         Some(key) => Tok::Key(key),
         None => Tok::Name(Word::new(bytes)),
     }

@@ -3,8 +3,8 @@ ghost use Rattle.std.specs.Prelude.{◌≡◌, MatchOption, Some, None};
 ghost use Rattle.mz_grammar.specs.Token.{next};
 
 use crate::key::{Key, same};
-use mz_bag::{Name, Text};
 use mz_lex::{lowered, unquoted};
+use mz_value::{Name, Text};
 use std::alloc::{AllocError, Global};
 use std::marker::Model;
 
@@ -17,7 +17,7 @@ pub struct Word<'a> {
 impl<'a> Model for Word<'a> {
     ghost use Rattle.std.specs.Prelude.{List, ℕ, ◌≡◌, true};
     ghost use Rattle.mz_lex.specs.Lowered.{lowered};
-    ghost use Rattle.mz_bag.specs.Name.{is_name};
+    ghost use Rattle.mz_value.specs.Name.{is_name};
 
     ghost Value = { List ℕ };
 
@@ -27,9 +27,9 @@ impl<'a> Model for Word<'a> {
 }
 
 impl<'a> Word<'a> {
-    ghost use Rattle.std.specs.Prelude.{◌≡◌, true, IfOk};
+    ghost use Rattle.std.specs.Prelude.{◌≡◌, true, IfOk, bytes_eq};
     ghost use Rattle.mz_lex.specs.Lowered.{lowered};
-    ghost use Rattle.mz_bag.specs.Name.{is_name};
+    ghost use Rattle.mz_value.specs.Name.{is_name};
 
     /// The word of these bytes. Takes no memory.
     pub fn new(bytes: &'a [u8]) -> Word<'a>
@@ -39,12 +39,24 @@ impl<'a> Word<'a> {
         Word { bytes }
     }
 
-    /// The name.
+    /// The name. It takes memory for the name alone.
+    #[tactic(auto, using(mz_value::proofs::NameText::name_utf8))]
     pub fn name(&self, alloc: Global) -> Result<Name, AllocError>
         ensures { IfOk result (λ name. name ≡ self.now) }
     {
-        let bytes = lowered(alloc, self.bytes)?;
-        Name::new(alloc, bytes.as_slice())
+        match String::from_utf8(lowered(alloc, self.bytes)?) {
+            Ok(string) => Ok(Name::from_string(string)),
+            Err(_) => unreachable!(),
+        }
+    }
+
+    /// Whether the word stands for this name, which has no capitals. Takes no memory.
+    #[tactic(auto, using(crate::proofs::Words::key_tests))]
+    pub fn is(&self, name: &str) -> bool
+        requires { lowered name.now ≡ name.now }
+        ensures { result ≡ bytes_eq self.now name.now }
+    {
+        self.bytes.eq_ignore_ascii_case(name.as_bytes())
     }
 }
 
