@@ -14,7 +14,7 @@ use Rattle.mz_grammar.specs.declared.key.Key.TheVariants as k
 use Rattle.mz_grammar.specs.declared.token.Tok.{Tok}
 use Rattle.mz_grammar.specs.declared.token.Tok.TheVariants.{Key as K, Name as N, Number, Text as T}
 use Rattle.mz_grammar.specs.Token.{next, same}
-use Rattle.mz_parse.specs.Faults.{IsLike}
+use Rattle.mz_grammar.specs.Faults.{IsLike}
 use Rattle.mz_parse.proofs.Steps.{next_is}
 use Rattle.mz_parse.specs.Reading.{◌>>=◌, Read, stuck, behind, key_at, name_at, within, more, more_from, listed, list_from}
 

@@ -1,8 +1,8 @@
 -- The faults of the readers of names, literals and conditions are exact.
-use Rattle.std.proofs.Common.{◌≡◌, ℕ, zero, suc, true, false, List, [], ◌∷◌, length, Some, None, Ok, refl, sym, subst, ◌∙◌}
+use Rattle.std.proofs.Common.{◌≡◌, ℕ, ◌+◌, zero, suc, true, false, List, [], ◌∷◌, length, Some, None, Ok, refl, sym, subst, ◌∙◌}
 use Rattle.std.specs.Prelude.{nat_le, pos, neg_ℤ}
-use Rattle.mz_bag.specs.declared.datum.Datum.{Datum}
-use Rattle.mz_bag.specs.declared.datum.Datum.TheVariants.{Int, Text, Bool as Truth}
+use Rattle.mz_value.specs.declared.datum.Datum.{Datum}
+use Rattle.mz_value.specs.declared.datum.Datum.TheVariants.{Int, Text, Bool as Truth}
 use Rattle.mz_statement.specs.declared.condition.Op.{Op}
 use Rattle.mz_statement.specs.declared.condition.Op.TheVariants.{Eq, Ne, Lt, Le, Gt, Ge}
 use Rattle.mz_statement.specs.declared.condition.Side.TheVariants as side
@@ -13,11 +13,13 @@ use Rattle.mz_grammar.specs.declared.token.Tok.{Tok}
 use Rattle.mz_grammar.specs.declared.token.Tok.TheVariants.{Key as K, Name as N, Number, Text as T}
 use Rattle.mz_grammar.specs.Token.{next}
 use Rattle.mz_grammar.specs.Joined.{all_of, any_of}
-use Rattle.mz_grammar.specs.Grammar.{Rule, IsColumn, IsConjunction, IsAtom}
+use Rattle.mz_grammar.specs.Grammar.{Rule, SpellsColumn, SpellsConjunction, SpellsAtom}
 use Rattle.mz_parse.specs.Reading.{◌>>=◌, Read, listed, key_at, name_at, alias_from, alias_at, column_from, column_at, negative_at, plain_at, literal_from, literal_at, value_at, side_at, op_at, comparison_at, conjunction_at, disjunction_at, atom_from, atom_at, condition_at, where_from, where_at}
 use Rattle.mz_parse.proofs.Shorter.{Shrinks, column_shrinks, conjunction_shrinks, atom_shrinks}
 use Rattle.mz_parse.proofs.Sound.{Sound, column_sound, conjunction_sound, atom_sound}
 use Rattle.mz_parse.proofs.Exact.{Rest, past, Alive, Live, Exact, Then, Passes, TokenSteps, goes, refused, alike, then_passes, value_passes, name_passes, key_then, optional_passes, token_passes, within_step, like_cases, Shortens, Lists, listed_passes}
+use Rattle.mz_statement.specs.Value.{greatest_int, longest_text}
+use Rattle.mz_statement.specs.Test.{greatest_depth}
 
 -- what a rule spells is read, and no longer behind it than before it
 pub shortens : {A : Type 0} (r : List Tok → Read A) (Is : Rule A) → Sound r Is → Shrinks Is → Shortens r
@@ -45,7 +47,7 @@ column_passes = then_passes name_at _ name_passes column_from_passes
 -- columns in a list
 pub columns_list : Lists true false k.Comma column_at
 columns_list =
-    record { optional = refl; stops = tt; short = shortens column_at IsColumn column_sound column_shrinks; passes = column_passes }
+    record { optional = refl; stops = tt; short = shortens column_at SpellsColumn column_sound column_shrinks; passes = column_passes }
 
 -- ---- literals and comparisons
 
@@ -62,7 +64,7 @@ number_alive r go n x (ts, plain, s, e) is = (ts, s, (λ i. is ts i >>= λ y. go
 -- a number behind a minus is read on within its limit
 negative_step : TokenSteps negative_at
 negative_step most go good (Number n) =
-    within_step most negative_at go (Number n) (Number 0) (nat_le n 2147483648) (Int (neg_ℤ (pos n))) (λ ts. refl) tt
+    within_step most negative_at go (Number n) (Number 0) (nat_le n (greatest_int + 1)) (Int (neg_ℤ (pos n))) (λ ts. refl) tt
     (number_alive negative_at go 0 (Int (neg_ℤ (pos 0))) (good _).live (λ ts. refl)) (good _).exact
 negative_step most go good (K key) = refused (λ ts. refl)
 negative_step most go good (N name) = refused (λ ts. refl)
@@ -81,10 +83,10 @@ text_alive go (ts, plain, s, e) = (ts, s, e)
 -- a number and a text are read on within their limits, and the words of truth
 plain_step : TokenSteps plain_at
 plain_step most go good (Number n) =
-    within_step most plain_at go (Number n) (Number 0) (nat_le n 2147483647) (Int (pos n)) (λ ts. refl) tt
+    within_step most plain_at go (Number n) (Number 0) (nat_le n greatest_int) (Int (pos n)) (λ ts. refl) tt
     (number_alive plain_at go 0 (Int (pos 0)) (good _).live (λ ts. refl)) (good _).exact
 plain_step most go good (T text) =
-    within_step most plain_at go (T text) (T []) (nat_le (length text) 1024) (Text text) (λ ts. refl) tt (text_alive go (good _).live)
+    within_step most plain_at go (T text) (T []) (nat_le (length text) longest_text) (Text text) (λ ts. refl) tt (text_alive go (good _).live)
     (good _).exact
 plain_step most go good (K k.True) = goes (good (Truth true)).exact
 plain_step most go good (K k.False) = goes (good (Truth false)).exact
@@ -166,7 +168,7 @@ atoms_list depth one =
     record {
       optional = refl;
       stops = tt;
-      short = shortens (atom_at depth) (IsAtom depth) (atom_sound depth)
+      short = shortens (atom_at depth) (SpellsAtom depth) (atom_sound depth)
           (atom_shrinks depth);
       passes = one;
     }
@@ -176,8 +178,8 @@ conjunctions_list : (depth : ℕ) → Passes true false (atom_at depth) → List
 conjunctions_list depth one = record {
   optional = refl;
   stops = tt;
-  short = shortens (conjunction_at (atom_at depth)) (IsConjunction (IsAtom depth))
-      (conjunction_sound (atom_at depth) (IsAtom depth) (atom_sound depth)) (conjunction_shrinks (IsAtom depth) (atom_shrinks depth));
+  short = shortens (conjunction_at (atom_at depth)) (SpellsConjunction (SpellsAtom depth))
+      (conjunction_sound (atom_at depth) (SpellsAtom depth) (atom_sound depth)) (conjunction_shrinks (SpellsAtom depth) (atom_shrinks depth));
   passes = conjunction_passes (atom_at depth) (atoms_list depth one);
 }
 
@@ -199,7 +201,7 @@ atom_passes (suc depth) =
 
 -- a condition
 condition_passes : Passes true false condition_at
-condition_passes = tests_passes 64 (atom_passes 64)
+condition_passes = tests_passes greatest_depth (atom_passes greatest_depth)
 
 -- [WHERE condition]
 pub where_passes : Passes true false where_at

@@ -9,7 +9,7 @@ use Rattle.mz_grammar.specs.declared.key.Key.TheVariants as k
 use Rattle.mz_grammar.specs.declared.token.Tok.{Tok}
 use Rattle.mz_grammar.specs.declared.token.Tok.TheVariants.{Key as K, Name as N, Number, Text as T}
 use Rattle.mz_grammar.specs.Token.{next}
-use Rattle.mz_grammar.specs.Grammar.{IsItem, IsPair, IsJoin, IsOther}
+use Rattle.mz_grammar.specs.Grammar.{SpellsItem, SpellsPair, SpellsJoin, SpellsOther}
 use Rattle.mz_parse.proofs.Shorter.{item_shrinks, pair_shrinks, join_shrinks, other_shrinks}
 use Rattle.mz_parse.proofs.Sound.{item_sound, pair_sound, join_sound, other_sound}
 use Rattle.mz_parse.specs.Reading.{◌>>=◌, Read, stuck, listed, name_at, alias_from, alias_at, follows, begins_as_of, column_from, column_at, reference_from, reference_at, pair_at, join_at, list_from, joins_at, grouped_at, group_at, where_at, is_aggregate, aggregate, counted_at, aggregated_at, expression_from, expression_at, item_at, items_from, items_at, distinct_from, select_from, select_at, all_select_at, unions_at, query_at}
@@ -66,7 +66,7 @@ pair_passes = then_passes column_at _ column_passes (λ l. key_then k.Equal _ (t
 
 -- pairs in a list
 pairs_list : Lists true false k.And pair_at
-pairs_list = record { optional = refl; stops = tt; short = shortens pair_at IsPair pair_sound pair_shrinks; passes = pair_passes }
+pairs_list = record { optional = refl; stops = tt; short = shortens pair_at SpellsPair pair_sound pair_shrinks; passes = pair_passes }
 
 -- what stands behind JOIN
 join_passes : Passes true false join_at
@@ -76,7 +76,7 @@ join_passes =
 
 -- joins in a list
 joins_list : Lists true false k.Join join_at
-joins_list = record { optional = refl; stops = tt; short = shortens join_at IsJoin join_sound join_shrinks; passes = join_passes }
+joins_list = record { optional = refl; stops = tt; short = shortens join_at SpellsJoin join_sound join_shrinks; passes = join_passes }
 
 -- joins
 joins_passes : Passes true false joins_at
@@ -129,7 +129,7 @@ item_passes = then_passes expression_at _ expression_passes (λ e. then_passes a
 
 -- items in a list
 items_list : Lists true false k.Comma item_at
-items_list = record { optional = refl; stops = tt; short = shortens item_at IsItem item_sound item_shrinks; passes = item_passes }
+items_list = record { optional = refl; stops = tt; short = shortens item_at SpellsItem item_sound item_shrinks; passes = item_passes }
 
 -- a star, or items
 items_passes : Passes true false items_at
@@ -190,7 +190,7 @@ others_list : (may_end : Bool) → Lists true may_end k.Union (all_select_at may
 others_list may_end = record {
   optional = refl;
   stops = union_stops may_end;
-  short = shortens (all_select_at may_end) IsOther (other_sound may_end) other_shrinks;
+  short = shortens (all_select_at may_end) SpellsOther (other_sound may_end) other_shrinks;
   passes = all_select_passes may_end;
 }
 

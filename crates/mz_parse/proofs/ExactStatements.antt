@@ -1,5 +1,5 @@
 -- The faults of the readers of statements are exact.
-use Rattle.std.proofs.Common.{◌≡◌, ℕ, suc, ◌^◌, Bool, true, false, ◌&&◌, List, [], ◌∷◌, length, Option, Some, None, Ok, Err, refl, sym, subst, arith}
+use Rattle.std.proofs.Common.{◌≡◌, ℕ, suc, Bool, true, false, ◌&&◌, List, [], ◌∷◌, length, Option, Some, None, Ok, Err, refl, sym, subst, arith}
 use Rattle.std.specs.Prelude.{codes, bytes_eq, nat_le, nat_lt}
 use Rattle.mz_statement.specs.declared.column.ColumnType.{ColumnType}
 use Rattle.mz_statement.specs.declared.column.ColumnType.TheVariants as kind
@@ -13,20 +13,21 @@ use Rattle.mz_grammar.specs.declared.key.Key.TheVariants as k
 use Rattle.mz_grammar.specs.declared.token.Tok.{Tok}
 use Rattle.mz_grammar.specs.declared.token.Tok.TheVariants.{Key as K, Name as N, Number, Text as T}
 use Rattle.mz_grammar.specs.Token.{next}
-use Rattle.mz_grammar.specs.Grammar.{IsLiteral, IsDefinition, IsTuple}
+use Rattle.mz_grammar.specs.Grammar.{SpellsLiteral, SpellsDefinition, SpellsTuple}
 use Rattle.mz_parse.proofs.Shorter.{literal_shrinks, definition_shrinks, tuple_shrinks}
 use Rattle.mz_parse.proofs.Sound.{literal_sound, definition_sound, tuple_sound}
 use Rattle.mz_parse.specs.Reading.{◌>>=◌, Read, listed, key_at, name_at, literal_at, where_at, query_at, time_at, lag_at, as_of_from, as_of_at, type_of, type_from, type_at, definition_at, create_table_at, create_view_at, create_index_at, create_at, drop_at, tuple_at, insert_at, delete_at, show_from, show_at, keep_named, keep_at, retain_at, top_query_at, statement_at, past_semicolon, nothing_behind, whole_at}
 use Rattle.mz_parse.proofs.Exact.{IsExact, Rest, past, Live, Exact, EndsAsOf, Good, AllGood, Then, Passes, Step, TokenSteps, goes, refused, alike, Chooses, choice_passes, exact_by, next_none, then_ends, then_passes, value_passes, name_passes, name_then, key_then, optional_passes, token_passes, within_step, like_cases, Lists, listed_passes}
 use Rattle.mz_parse.proofs.ExactConditions.{shortens, number_live, number_alive, literal_passes, where_passes}
 use Rattle.mz_parse.proofs.ExactSelects.{query_passes}
+use Rattle.mz_statement.specs.Statement.{lags, times}
 
 -- ---- times, types and lists
 
 -- a number is read on within its limit
 time_step : TokenSteps time_at
 time_step most go good (Number n) =
-    within_step most time_at go (Number n) (Number 0) (nat_lt n (2 ^ 63)) n (λ ts. refl) tt
+    within_step most time_at go (Number n) (Number 0) (nat_lt n times) n (λ ts. refl) tt
     (number_alive time_at go 0 0 (good 0).live (λ ts. refl)) (good n).exact
 time_step most go good (K key) = refused (λ ts. refl)
 time_step most go good (N name) = refused (λ ts. refl)
@@ -39,7 +40,7 @@ time_passes = token_passes time_at refl (λ most go good. number_live time_at go
 -- a number is read on within its limits
 lag_step : TokenSteps lag_at
 lag_step most go good (Number n) =
-    within_step most lag_at go (Number n) (Number 1) (nat_le 1 n && nat_lt n (2 ^ 32)) n (λ ts. refl) tt
+    within_step most lag_at go (Number n) (Number 1) (nat_le 1 n && nat_lt n lags) n (λ ts. refl) tt
     (number_alive lag_at go 1 1 (good 1).live (λ ts. refl)) (good n).exact
 lag_step most go good (K key) = refused (λ ts. refl)
 lag_step most go good (N name) = refused (λ ts. refl)
@@ -91,14 +92,14 @@ definitions_list : Lists true false k.Comma definition_at
 definitions_list = record {
   optional = refl;
   stops = tt;
-  short = shortens definition_at IsDefinition definition_sound definition_shrinks;
+  short = shortens definition_at SpellsDefinition definition_sound definition_shrinks;
   passes = definition_passes;
 }
 
 -- literals in a list
 literals_list : Lists true false k.Comma literal_at
 literals_list =
-    record { optional = refl; stops = tt; short = shortens literal_at IsLiteral literal_sound literal_shrinks; passes = literal_passes }
+    record { optional = refl; stops = tt; short = shortens literal_at SpellsLiteral literal_sound literal_shrinks; passes = literal_passes }
 
 -- literals in parentheses
 tuple_passes : Passes false false tuple_at
@@ -107,7 +108,7 @@ tuple_passes =
 
 -- tuples in a list
 tuples_list : Lists false false k.Comma tuple_at
-tuples_list = record { optional = refl; stops = tt; short = shortens tuple_at IsTuple tuple_sound tuple_shrinks; passes = tuple_passes }
+tuples_list = record { optional = refl; stops = tt; short = shortens tuple_at SpellsTuple tuple_sound tuple_shrinks; passes = tuple_passes }
 
 -- ---- statements
 

@@ -8,9 +8,9 @@ use Rattle.mz_statement.specs.declared.statement.Statement.{Statement}
 use Rattle.mz_grammar.specs.declared.token.Tok.{Tok}
 use Rattle.mz_grammar.specs.Grammar.{Spells}
 use Rattle.mz_grammar.specs.Token.{toks_of}
-use Rattle.mz_parse.specs.Faults.{Viable, IsLike, IsStuck, IsOutOfRange, place_of, literal_start, IsSyntaxAt, IsRangeAt, IsParseFault}
-use Rattle.mz_parse.specs.declared.fault.ParseFault.{ParseFault}
-use Rattle.mz_parse.specs.declared.fault.ParseFault.TheVariants as faults
+use Rattle.mz_grammar.specs.Faults.{Viable, IsLike, IsStuck, IsOutOfRange, place_of, literal_start, IsSyntaxAt, IsRangeAt, IsParseFault}
+use Rattle.mz_grammar.specs.declared.fault.ParseFault.{ParseFault}
+use Rattle.mz_grammar.specs.declared.fault.ParseFault.TheVariants as faults
 use Rattle.mz_parse.specs.declared.fault.ReadError.{ReadError}
 use Rattle.mz_parse.specs.declared.fault.ReadError.TheVariants as errors
 use Rattle.mz_parse.specs.Reading.{Fails, whole_at}

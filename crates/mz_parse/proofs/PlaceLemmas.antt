@@ -3,7 +3,7 @@ use Rattle.std.proofs.Common.{◌≡◌, ℕ, zero, suc, ◌+◌, ◌-◌, ◌�
 use Rattle.std.proofs.Math.Seq.{take-append_seam}
 use Rattle.mz_lex.specs.declared.token.Token.{Token}
 use Rattle.mz_grammar.specs.declared.token.Tok.{Tok}
-use Rattle.mz_parse.specs.Faults.{place_of, is_minus, ends_in_minus}
+use Rattle.mz_grammar.specs.Faults.{place_of, is_minus, ends_in_minus}
 
 -- the place of a token that is there
 pub place_at : (text : List ℕ) (tokens : List Token) (n : ℕ) (token : Token) → n < length tokens → token ≡ get_or tokens n token

@@ -1,7 +1,7 @@
 -- Reading from left to right: what stands at the front of some tokens, and the tokens behind it.
-use Rattle.std.specs.Prelude.{◌≡◌, ℕ, zero, suc, ◌^◌, Bool, true, false, ◌&&◌, ◌||◌, List, [], ◌∷◌, codes, bytes_eq, nat_le, nat_lt, length, Option, Some, None, Result, Ok, Err, if◌then◌else◌, pos, neg_ℤ}
-use Rattle.mz_bag.specs.declared.datum.Datum.{Datum}
-use Rattle.mz_bag.specs.declared.datum.Datum.TheVariants as datum
+use Rattle.std.specs.Prelude.{◌≡◌, ℕ, zero, suc, ◌+◌, Bool, true, false, ◌&&◌, ◌||◌, List, [], ◌∷◌, codes, bytes_eq, nat_le, nat_lt, length, Option, Some, None, Result, Ok, Err, if◌then◌else◌, pos, neg_ℤ}
+use Rattle.mz_value.specs.declared.datum.Datum.{Datum}
+use Rattle.mz_value.specs.declared.datum.Datum.TheVariants as datum
 use Rattle.mz_statement.specs.declared.column.Column.{Column}
 use Rattle.mz_statement.specs.declared.column.ColumnType.{ColumnType}
 use Rattle.mz_statement.specs.declared.column.ColumnType.TheVariants as kind
@@ -33,6 +33,9 @@ use Rattle.mz_grammar.specs.declared.key.Key.{Key}
 use Rattle.mz_grammar.specs.declared.key.Key.TheVariants as k
 use Rattle.mz_grammar.specs.Token.{next}
 use Rattle.mz_grammar.specs.Joined.{all_of, any_of}
+use Rattle.mz_statement.specs.Statement.{lags, times}
+use Rattle.mz_statement.specs.Test.{greatest_depth}
+use Rattle.mz_statement.specs.Value.{greatest_int, longest_text}
 
 infixl 10 ◌>>=◌
 -- go on with what was read, or stay with the fault
@@ -125,12 +128,12 @@ within false ts x us = Err (Range (length ts))
 
 -- behind a minus
 abbrev pub negative_at : List Tok → Read Datum
-negative_at (t.Number n ∷ us) = within (nat_le n 2147483648) (t.Number n ∷ us) (datum.Int (neg_ℤ (pos n))) us
+negative_at (t.Number n ∷ us) = within (nat_le n (greatest_int + 1)) (t.Number n ∷ us) (datum.Int (neg_ℤ (pos n))) us
 negative_at ts = stuck ts
 
 abbrev pub plain_at : List Tok → Read Datum
-plain_at (t.Number n ∷ us) = within (nat_le n 2147483647) (t.Number n ∷ us) (datum.Int (pos n)) us
-plain_at (t.Text text ∷ us) = within (nat_le (length text) 1024) (t.Text text ∷ us) (datum.Text text) us
+plain_at (t.Number n ∷ us) = within (nat_le n greatest_int) (t.Number n ∷ us) (datum.Int (pos n)) us
+plain_at (t.Text text ∷ us) = within (nat_le (length text) longest_text) (t.Text text ∷ us) (datum.Text text) us
 plain_at (t.Key k.True ∷ us) = Ok (datum.Bool true, us)
 plain_at (t.Key k.False ∷ us) = Ok (datum.Bool false, us)
 plain_at ts = stuck ts
@@ -187,7 +190,7 @@ atom_at zero ts = comparison_at ts
 atom_at (suc depth) ts = atom_from (atom_at depth) ts (next k.Not ts) (next k.Open ts)
 
 abbrev pub condition_at : List Tok → Read Test
-condition_at ts = disjunction_at (atom_at 64) ts
+condition_at ts = disjunction_at (atom_at greatest_depth) ts
 
 -- ---- selects and queries
 
@@ -292,11 +295,11 @@ query_at may_end ts = select_at may_end ts >>= λ s. unions_at may_end s.1 >>= �
 -- ---- statements
 
 abbrev pub time_at : List Tok → Read ℕ
-time_at (t.Number n ∷ ts) = within (nat_lt n (2 ^ 63)) (t.Number n ∷ ts) n ts
+time_at (t.Number n ∷ ts) = within (nat_lt n times) (t.Number n ∷ ts) n ts
 time_at ts = stuck ts
 
 abbrev pub lag_at : List Tok → Read ℕ
-lag_at (t.Number n ∷ ts) = within (nat_le 1 n && nat_lt n (2 ^ 32)) (t.Number n ∷ ts) n ts
+lag_at (t.Number n ∷ ts) = within (nat_le 1 n && nat_lt n lags) (t.Number n ∷ ts) n ts
 lag_at ts = stuck ts
 
 abbrev pub as_of_from : List Tok → Option (List Tok) → Read (Option ℕ)

@@ -7,15 +7,14 @@ ghost use Rattle.mz_grammar.specs.declared.key.Key.TheVariants as k;
 
 use crate::fault::{Fault, ReadError};
 use crate::reading::{Read, column, expect, stuck};
-use mz_bag::Datum;
 use mz_grammar::{Digits, Key, Tok, after};
-use mz_statement::{Condition, Op, Side, Test};
+use mz_statement::{Condition, GREATEST_DEPTH, LONGEST_TEXT, Op, Side, Test};
+use mz_value::Datum;
 use sqlite_items::{Boxed, Items};
 use std::alloc::{AllocError, Global};
 
-const MOST_OPEN: u64 = 64;
-
-const LONGEST_TEXT: usize = 1024;
+// The greatest INT.
+const GREATEST_INT: u64 = i32::MAX as u64;
 
 /// The fault at a literal that is out of range, which stands first. Takes no memory.
 pub fn out_of_range(tokens: &[Tok]) -> ReadError
@@ -40,7 +39,7 @@ fn negative<'a>(tokens: &'a [Tok<'a>]) -> Read<'a, Datum>
 {
     match tokens {
         [first, rest @ ..] => match first {
-            Tok::Number(digits) => match number_up_to(digits, 2_147_483_648) {
+            Tok::Number(digits) => match number_up_to(digits, GREATEST_INT + 1) {
                 Some(number) => Ok((Datum::Int((-(number as i64)) as i32), rest)),
                 None => Err(out_of_range(tokens)),
             },
@@ -56,7 +55,7 @@ fn plain<'a>(alloc: Global, tokens: &'a [Tok<'a>]) -> Read<'a, Datum>
 {
     match tokens {
         [first, rest @ ..] => match first {
-            Tok::Number(digits) => match number_up_to(digits, 2_147_483_647) {
+            Tok::Number(digits) => match number_up_to(digits, GREATEST_INT) {
                 Some(number) => Ok((Datum::Int(number as i32), rest)),
                 None => Err(out_of_range(tokens)),
             },
@@ -274,7 +273,7 @@ fn disjunction<'a>(alloc: Global, depth: u64, tokens: &'a [Tok<'a>]) -> Read<'a,
 fn test<'a>(alloc: Global, tokens: &'a [Tok<'a>]) -> Read<'a, Test>
     ensures { Gives (λ x. (x.0, x.1.now)) result (condition_at tokens.now) }
 {
-    disjunction(alloc, MOST_OPEN, tokens)
+    disjunction(alloc, GREATEST_DEPTH, tokens)
 }
 
 // A condition.

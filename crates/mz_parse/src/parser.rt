@@ -3,14 +3,14 @@ ghost use Rattle.std.specs.Prelude.{◌≡◌, ◌≢◌, ℕ, ◌-◌, IfOk, If
 ghost use Rattle.mz_lex.specs.Fault.{IsFirstFault};
 ghost use Rattle.mz_statement.specs.declared.statement.Statement.{Statement};
 ghost use Rattle.mz_grammar.specs.Grammar.{IsSpelling};
-ghost use Rattle.mz_parse.specs.Faults.{place_of, is_minus, ends_in_minus, literal_start, IsParseFault};
+ghost use Rattle.mz_grammar.specs.Faults.{place_of, is_minus, ends_in_minus, literal_start, IsParseFault};
 
-use crate::fault::{Fault, ParseFault, ReadError};
+use crate::fault::{Fault, ReadError};
 use crate::statement::whole;
-use mz_bag::Text;
-use mz_grammar::{Key, Tok, toks};
+use mz_grammar::{Key, ParseFault, Tok, toks};
 use mz_lex::{LexFault, Token, tokens};
 use mz_statement::Statement;
+use mz_value::Text;
 use std::alloc::Global;
 
 // The place of the token that has so many before it, or the text's end where there is none.

@@ -5,9 +5,9 @@ ghost use Rattle.mz_grammar.specs.declared.key.Key.TheVariants as k;
 ghost use Rattle.mz_grammar.specs.Token.{next};
 
 use crate::fault::{Fault, ReadError};
-use mz_bag::Name;
-use mz_grammar::{Key, Tok, after};
+use mz_grammar::{Key, Tok, Word, after};
 use mz_statement::ColumnName;
+use mz_value::Name;
 use std::alloc::Global;
 
 /// What was read, and the tokens behind it.
@@ -30,17 +30,25 @@ pub fn expect<'a>(key: Key, tokens: &'a [Tok<'a>]) -> Result<&'a [Tok<'a>], Read
     }
 }
 
-/// A name.
-pub fn name<'a>(alloc: Global, tokens: &'a [Tok<'a>]) -> Read<'a, Name>
-    ensures { Gives (λ x. (x.0, x.1.now)) result (name_at tokens.now) }
+/// A word that isn't reserved. Takes no memory.
+pub fn word<'a>(tokens: &'a [Tok<'a>]) -> Read<'a, &'a Word<'a>>
+    ensures { Gives (λ x. (x.0.now, x.1.now)) result (name_at tokens.now) }
 {
     match tokens {
         [first, rest @ ..] => match first {
-            Tok::Name(word) => Ok((word.name(alloc)?, rest)),
+            Tok::Name(word) => Ok((word, rest)),
             _ => Err(stuck(tokens)),
         },
         [] => Err(stuck(tokens)),
     }
+}
+
+/// A name.
+pub fn name<'a>(alloc: Global, tokens: &'a [Tok<'a>]) -> Read<'a, Name>
+    ensures { Gives (λ x. (x.0, x.1.now)) result (name_at tokens.now) }
+{
+    let (word, rest) = word(tokens)?;
+    Ok((word.name(alloc)?, rest))
 }
 
 /// A name behind AS, where AS stands first.

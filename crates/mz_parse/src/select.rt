@@ -1,13 +1,13 @@
 //! Readers of selects and queries.
 ghost use Rattle.std.specs.Prelude.{◌≡◌, List};
-ghost use Rattle.mz_parse.specs.Reading.{Gives, reference_at, pair_at, join_at, joins_at, listed, group_at, aggregate, is_aggregate, expression_from, expression_at, item_at, items_at, distinct_at, select_from, select_at, all_select_at, unions_at, query_at, column_at, counted_at, aggregated_at};
+ghost use Rattle.mz_parse.specs.Reading.{Gives, reference_at, pair_at, join_at, joins_at, group_at, aggregate, is_aggregate, expression_from, expression_at, item_at, items_at, distinct_at, select_from, select_at, all_select_at, unions_at, query_at, column_at, counted_at, aggregated_at};
 ghost use Rattle.mz_grammar.specs.Token.{next};
 ghost use Rattle.mz_grammar.specs.declared.key.Key.TheVariants as k;
 
 use crate::condition::where_test;
-use crate::reading::{Read, alias, begins_as_of, column, column_from, expect, name, stuck};
-use mz_bag::Name;
-use mz_grammar::{Key, Tok, after};
+use crate::list::{Reader, listed};
+use crate::reading::{Read, alias, begins_as_of, column, column_from, expect, name, stuck, word};
+use mz_grammar::{Key, Tok, Word, after};
 use mz_statement::{
     ColumnName, ColumnNames, ColumnPair, ColumnPairs, Expression, Join, Joins, Query, Reference,
     Select, SelectItem, SelectItems,
@@ -36,22 +36,16 @@ fn pair<'a>(alloc: Global, tokens: &'a [Tok<'a>]) -> Read<'a, ColumnPair>
     Ok((ColumnPair { left, right }, rest))
 }
 
-// One pair or more with AND between.
-fn pairs<'a>(alloc: Global, tokens: &'a [Tok<'a>]) -> Read<'a, Vec<ColumnPair>>
-    ensures { Gives (λ x. (x.0.items, x.1.now)) result (listed k.And pair_at tokens.now) }
-{
-    let mut list = Vec::new(alloc);
-    let (first, mut rest) = pair(alloc, tokens)?;
-    list.push(first)?;
-    'members: for _ in 0..rest.len() {
-        let Some(next) = after(Key::And, rest) else {
-            return Ok((list, rest));
-        };
-        let (member, behind) = pair(alloc, next)?;
-        list.push(member)?;
-        rest = behind;
+// Reads the pairs of a join.
+#[derive(Clone, Copy)]
+struct PairReader;
+
+impl Reader<ColumnPair> for PairReader {
+    ghost reads = { λ _. pair_at };
+
+    fn read<'a>(&self, alloc: Global, tokens: &'a [Tok<'a>]) -> Read<'a, ColumnPair> {
+        pair(alloc, tokens)
     }
-    Ok((list, rest))
 }
 
 // What stands behind JOIN.
@@ -60,27 +54,21 @@ fn join<'a>(alloc: Global, tokens: &'a [Tok<'a>]) -> Read<'a, Join>
 {
     let (reference, rest) = reference(alloc, false, tokens)?;
     let rest = expect(Key::On, rest)?;
-    let (pairs, rest) = pairs(alloc, rest)?;
+    let (pairs, rest) = listed(alloc, Key::And, &PairReader, rest)?;
     let pairs = ColumnPairs::from_vec(pairs);
     Ok((Join { reference, pairs }, rest))
 }
 
-// One join or more, behind the first JOIN.
-fn more_joins<'a>(alloc: Global, tokens: &'a [Tok<'a>]) -> Read<'a, Vec<Join>>
-    ensures { Gives (λ x. (x.0.items, x.1.now)) result (listed k.Join join_at tokens.now) }
-{
-    let mut list = Vec::new(alloc);
-    let (first, mut rest) = join(alloc, tokens)?;
-    list.push(first)?;
-    'members: for _ in 0..rest.len() {
-        let Some(next) = after(Key::Join, rest) else {
-            return Ok((list, rest));
-        };
-        let (member, behind) = join(alloc, next)?;
-        list.push(member)?;
-        rest = behind;
+// Reads what stands behind each JOIN.
+#[derive(Clone, Copy)]
+struct JoinReader;
+
+impl Reader<Join> for JoinReader {
+    ghost reads = { λ _. join_at };
+
+    fn read<'a>(&self, alloc: Global, tokens: &'a [Tok<'a>]) -> Read<'a, Join> {
+        join(alloc, tokens)
     }
-    Ok((list, rest))
 }
 
 // The joins, if there are some.
@@ -89,29 +77,23 @@ fn joins<'a>(alloc: Global, tokens: &'a [Tok<'a>]) -> Read<'a, Joins>
 {
     match after(Key::Join, tokens) {
         Some(rest) => {
-            let (list, rest) = more_joins(alloc, rest)?;
+            let (list, rest) = listed(alloc, Key::Join, &JoinReader, rest)?;
             Ok((Joins::from_vec(list), rest))
         }
         None => Ok((Joins::from_vec(Vec::new(alloc)), tokens)),
     }
 }
 
-// One column or more with commas between.
-fn columns<'a>(alloc: Global, tokens: &'a [Tok<'a>]) -> Read<'a, Vec<ColumnName>>
-    ensures { Gives (λ x. (x.0.items, x.1.now)) result (listed k.Comma column_at tokens.now) }
-{
-    let mut list = Vec::new(alloc);
-    let (first, mut rest) = column(alloc, tokens)?;
-    list.push(first)?;
-    'members: for _ in 0..rest.len() {
-        let Some(next) = after(Key::Comma, rest) else {
-            return Ok((list, rest));
-        };
-        let (member, behind) = column(alloc, next)?;
-        list.push(member)?;
-        rest = behind;
+// Reads the columns behind GROUP BY.
+#[derive(Clone, Copy)]
+struct ColumnReader;
+
+impl Reader<ColumnName> for ColumnReader {
+    ghost reads = { λ _. column_at };
+
+    fn read<'a>(&self, alloc: Global, tokens: &'a [Tok<'a>]) -> Read<'a, ColumnName> {
+        column(alloc, tokens)
     }
-    Ok((list, rest))
 }
 
 // The columns behind GROUP BY, if GROUP stands first.
@@ -121,7 +103,7 @@ fn group<'a>(alloc: Global, tokens: &'a [Tok<'a>]) -> Read<'a, ColumnNames>
     match after(Key::Group, tokens) {
         Some(rest) => {
             let rest = expect(Key::By, rest)?;
-            let (list, rest) = columns(alloc, rest)?;
+            let (list, rest) = listed(alloc, Key::Comma, &ColumnReader, rest)?;
             Ok((ColumnNames::from_vec(list), rest))
         }
         None => Ok((ColumnNames::from_vec(Vec::new(alloc)), tokens)),
@@ -129,21 +111,19 @@ fn group<'a>(alloc: Global, tokens: &'a [Tok<'a>]) -> Read<'a, ColumnNames>
 }
 
 // Whether the word is an aggregate of a column.
-fn is_aggregate(word: &Name) -> bool
+fn is_aggregate(word: &Word) -> bool
     ensures { result ≡ is_aggregate word.now }
 {
-    let word = word.as_bytes();
-    word == b"sum".as_slice() || word == b"min".as_slice() || word == b"max".as_slice()
+    word.is("sum") || word.is("min") || word.is("max")
 }
 
 // Which aggregate of the column it is.
-fn aggregate(word: &Name, column: ColumnName) -> Expression
+fn aggregate(word: &Word, column: ColumnName) -> Expression
     ensures { result ≡ aggregate word.now column }
 {
-    let word = word.as_bytes();
-    if word == b"sum".as_slice() {
+    if word.is("sum") {
         Expression::Sum(column)
-    } else if word == b"min".as_slice() {
+    } else if word.is("min") {
         Expression::Min(column)
     } else {
         Expression::Max(column)
@@ -160,7 +140,7 @@ fn counted<'a>(tokens: &'a [Tok<'a>]) -> Read<'a, Expression>
 }
 
 // What stands in the parentheses of another aggregate.
-fn aggregated<'a>(alloc: Global, word: &Name, tokens: &'a [Tok<'a>]) -> Read<'a, Expression>
+fn aggregated<'a>(alloc: Global, word: &Word, tokens: &'a [Tok<'a>]) -> Read<'a, Expression>
     ensures { Gives (λ x. (x.0, x.1.now)) result (aggregated_at word.now tokens.now) }
 {
     let (column, rest) = column(alloc, tokens)?;
@@ -169,22 +149,22 @@ fn aggregated<'a>(alloc: Global, word: &Name, tokens: &'a [Tok<'a>]) -> Read<'a,
 }
 
 // The expression whose first word was read.
-fn expression_from<'a>(alloc: Global, word: Name, tokens: &'a [Tok<'a>]) -> Read<'a, Expression>
+fn expression_from<'a>(alloc: Global, word: &Word, tokens: &'a [Tok<'a>]) -> Read<'a, Expression>
     ensures { Gives (λ x. (x.0, x.1.now)) result
-        (expression_from word tokens.now (next k.Open tokens.now)) }
+        (expression_from word.now tokens.now (next k.Open tokens.now)) }
 {
     match after(Key::Open, tokens) {
         Some(rest) => {
-            if word.as_bytes() == b"count".as_slice() {
+            if word.is("count") {
                 counted(rest)
-            } else if is_aggregate(&word) {
-                aggregated(alloc, &word, rest)
+            } else if is_aggregate(word) {
+                aggregated(alloc, word, rest)
             } else {
                 Err(stuck(tokens))
             }
         }
         None => {
-            let (column, rest) = column_from(alloc, word, tokens)?;
+            let (column, rest) = column_from(alloc, word.name(alloc)?, tokens)?;
             Ok((Expression::Column(column), rest))
         }
     }
@@ -194,7 +174,7 @@ fn expression_from<'a>(alloc: Global, word: Name, tokens: &'a [Tok<'a>]) -> Read
 fn expression<'a>(alloc: Global, tokens: &'a [Tok<'a>]) -> Read<'a, Expression>
     ensures { Gives (λ x. (x.0, x.1.now)) result (expression_at tokens.now) }
 {
-    let (word, rest) = name(alloc, tokens)?;
+    let (word, rest) = word(tokens)?;
     expression_from(alloc, word, rest)
 }
 
@@ -207,22 +187,16 @@ fn item<'a>(alloc: Global, tokens: &'a [Tok<'a>]) -> Read<'a, SelectItem>
     Ok((SelectItem { expression, alias }, rest))
 }
 
-// One item or more with commas between.
-fn some_items<'a>(alloc: Global, tokens: &'a [Tok<'a>]) -> Read<'a, Vec<SelectItem>>
-    ensures { Gives (λ x. (x.0.items, x.1.now)) result (listed k.Comma item_at tokens.now) }
-{
-    let mut list = Vec::new(alloc);
-    let (first, mut rest) = item(alloc, tokens)?;
-    list.push(first)?;
-    'members: for _ in 0..rest.len() {
-        let Some(next) = after(Key::Comma, rest) else {
-            return Ok((list, rest));
-        };
-        let (member, behind) = item(alloc, next)?;
-        list.push(member)?;
-        rest = behind;
+// Reads the items of a select.
+#[derive(Clone, Copy)]
+struct ItemReader;
+
+impl Reader<SelectItem> for ItemReader {
+    ghost reads = { λ _. item_at };
+
+    fn read<'a>(&self, alloc: Global, tokens: &'a [Tok<'a>]) -> Read<'a, SelectItem> {
+        item(alloc, tokens)
     }
-    Ok((list, rest))
 }
 
 // The items, or a star.
@@ -232,7 +206,7 @@ fn items<'a>(alloc: Global, tokens: &'a [Tok<'a>]) -> Read<'a, Option<SelectItem
     match after(Key::Star, tokens) {
         Some(rest) => Ok((None, rest)),
         None => {
-            let (list, rest) = some_items(alloc, tokens)?;
+            let (list, rest) = listed(alloc, Key::Comma, &ItemReader, tokens)?;
             Ok((Some(SelectItems::from_vec(list)), rest))
         }
     }
@@ -293,23 +267,18 @@ fn all_select<'a>(alloc: Global, may_end: bool, tokens: &'a [Tok<'a>]) -> Read<'
     select(alloc, may_end, rest)
 }
 
-// One select or more, behind the first UNION.
-fn more_selects<'a>(alloc: Global, may_end: bool, tokens: &'a [Tok<'a>]) -> Read<'a, Vec<Select>>
-    ensures { Gives (λ x. (x.0.items, x.1.now)) result
-        (listed k.Union (all_select_at may_end) tokens.now) }
-{
-    let mut list = Vec::new(alloc);
-    let (first, mut rest) = all_select(alloc, may_end, tokens)?;
-    list.push(first)?;
-    'members: for _ in 0..rest.len() {
-        let Some(next) = after(Key::Union, rest) else {
-            return Ok((list, rest));
-        };
-        let (member, behind) = all_select(alloc, may_end, next)?;
-        list.push(member)?;
-        rest = behind;
+// Reads what stands behind each UNION.
+#[derive(Clone, Copy)]
+struct SelectReader {
+    may_end: bool,
+}
+
+impl Reader<Select> for SelectReader {
+    ghost reads = { λ r. all_select_at r.may_end };
+
+    fn read<'a>(&self, alloc: Global, tokens: &'a [Tok<'a>]) -> Read<'a, Select> {
+        all_select(alloc, self.may_end, tokens)
     }
-    Ok((list, rest))
 }
 
 // The selects behind UNION ALL, if there are some.
@@ -317,7 +286,7 @@ fn unions<'a>(alloc: Global, may_end: bool, tokens: &'a [Tok<'a>]) -> Read<'a, V
     ensures { Gives (λ x. (x.0.items, x.1.now)) result (unions_at may_end tokens.now) }
 {
     match after(Key::Union, tokens) {
-        Some(rest) => more_selects(alloc, may_end, rest),
+        Some(rest) => listed(alloc, Key::Union, &SelectReader { may_end }, rest),
         None => Ok((Vec::new(alloc), tokens)),
     }
 }

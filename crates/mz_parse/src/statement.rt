@@ -1,20 +1,17 @@
 //! Readers of statements.
 ghost use Rattle.std.specs.Prelude.{◌≡◌, List};
-ghost use Rattle.mz_parse.specs.Reading.{Gives, time_at, lag_at, as_of_at, type_of, type_at, definition_at, listed, create_table_at, create_view_at, create_index_at, create_at, drop_at, literal_at, tuple_at, insert_at, delete_at, show_at, keep_word_at, keep_at, retain_at, top_query_at, statement_at, nothing_behind, whole_at};
+ghost use Rattle.mz_parse.specs.Reading.{Gives, time_at, lag_at, as_of_at, type_of, type_at, definition_at, create_table_at, create_view_at, create_index_at, create_at, drop_at, literal_at, tuple_at, insert_at, delete_at, show_at, keep_word_at, keep_at, retain_at, top_query_at, statement_at, nothing_behind, whole_at};
 ghost use Rattle.mz_grammar.specs.declared.key.Key.TheVariants as k;
 
 use crate::condition::{literal, out_of_range, where_test};
 use crate::fault::ReadError;
-use crate::reading::{Read, expect, name, stuck};
+use crate::list::{Reader, listed};
+use crate::reading::{Read, expect, name, stuck, word};
 use crate::select::query;
-use mz_bag::{Datum, Name, Row, Rows};
-use mz_grammar::{Key, Tok, after};
-use mz_statement::{Column, ColumnType, Columns, Keep, Statement};
+use mz_grammar::{Key, Tok, Word, after};
+use mz_statement::{Column, ColumnType, Columns, Keep, LAGS, Statement, TIMES};
+use mz_value::{Datum, Row, Rows};
 use std::alloc::Global;
-
-const TIMES: u64 = 1 << 63;
-
-const LAGS: u64 = 1 << 32;
 
 // A time.
 fn time<'a>(tokens: &'a [Tok<'a>]) -> Read<'a, u64>
@@ -72,15 +69,14 @@ fn top_query<'a>(alloc: Global, tokens: &'a [Tok<'a>]) -> Read<'a, Statement>
 }
 
 // The type that the word names.
-fn type_of(word: &Name) -> Option<ColumnType>
+fn type_of(word: &Word) -> Option<ColumnType>
     ensures { result ≡ type_of word.now }
 {
-    let word = word.as_bytes();
-    if word == b"int".as_slice() {
+    if word.is("int") {
         Some(ColumnType::Int)
-    } else if word == b"text".as_slice() {
+    } else if word.is("text") {
         Some(ColumnType::Text)
-    } else if word == b"bool".as_slice() {
+    } else if word.is("bool") {
         Some(ColumnType::Bool)
     } else {
         None
@@ -88,11 +84,11 @@ fn type_of(word: &Name) -> Option<ColumnType>
 }
 
 // A type.
-fn column_type<'a>(alloc: Global, tokens: &'a [Tok<'a>]) -> Read<'a, ColumnType>
+fn column_type<'a>(tokens: &'a [Tok<'a>]) -> Read<'a, ColumnType>
     ensures { Gives (λ x. (x.0, x.1.now)) result (type_at tokens.now) }
 {
-    let (word, rest) = name(alloc, tokens)?;
-    match type_of(&word) {
+    let (word, rest) = word(tokens)?;
+    match type_of(word) {
         Some(kind) => Ok((kind, rest)),
         None => Err(stuck(tokens)),
     }
@@ -103,26 +99,20 @@ fn definition<'a>(alloc: Global, tokens: &'a [Tok<'a>]) -> Read<'a, Column>
     ensures { Gives (λ x. (x.0, x.1.now)) result (definition_at tokens.now) }
 {
     let (name, rest) = name(alloc, tokens)?;
-    let (kind, rest) = column_type(alloc, rest)?;
+    let (kind, rest) = column_type(rest)?;
     Ok((Column { name, kind }, rest))
 }
 
-// One column or more with commas between.
-fn definitions<'a>(alloc: Global, tokens: &'a [Tok<'a>]) -> Read<'a, Vec<Column>>
-    ensures { Gives (λ x. (x.0.items, x.1.now)) result (listed k.Comma definition_at tokens.now) }
-{
-    let mut list = Vec::new(alloc);
-    let (first, mut rest) = definition(alloc, tokens)?;
-    list.push(first)?;
-    'members: for _ in 0..rest.len() {
-        let Some(next) = after(Key::Comma, rest) else {
-            return Ok((list, rest));
-        };
-        let (member, behind) = definition(alloc, next)?;
-        list.push(member)?;
-        rest = behind;
+// Reads the columns of a new table.
+#[derive(Clone, Copy)]
+struct DefinitionReader;
+
+impl Reader<Column> for DefinitionReader {
+    ghost reads = { λ _. definition_at };
+
+    fn read<'a>(&self, alloc: Global, tokens: &'a [Tok<'a>]) -> Read<'a, Column> {
+        definition(alloc, tokens)
     }
-    Ok((list, rest))
 }
 
 // What stands behind CREATE TABLE.
@@ -131,7 +121,7 @@ fn create_table<'a>(alloc: Global, tokens: &'a [Tok<'a>]) -> Read<'a, Statement>
 {
     let (name, rest) = name(alloc, tokens)?;
     let rest = expect(Key::Open, rest)?;
-    let (columns, rest) = definitions(alloc, rest)?;
+    let (columns, rest) = listed(alloc, Key::Comma, &DefinitionReader, rest)?;
     let rest = expect(Key::Close, rest)?;
     let columns = Columns::from_vec(columns);
     Ok((Statement::CreateTable(name, columns), rest))
@@ -196,22 +186,16 @@ fn drop_item<'a>(alloc: Global, tokens: &'a [Tok<'a>]) -> Read<'a, Statement>
     }
 }
 
-// One literal or more with commas between.
-fn literals<'a>(alloc: Global, tokens: &'a [Tok<'a>]) -> Read<'a, Vec<Datum>>
-    ensures { Gives (λ x. (x.0.items, x.1.now)) result (listed k.Comma literal_at tokens.now) }
-{
-    let mut list = Vec::new(alloc);
-    let (first, mut rest) = literal(alloc, tokens)?;
-    list.push(first)?;
-    'members: for _ in 0..rest.len() {
-        let Some(next) = after(Key::Comma, rest) else {
-            return Ok((list, rest));
-        };
-        let (member, behind) = literal(alloc, next)?;
-        list.push(member)?;
-        rest = behind;
+// Reads the values of a row.
+#[derive(Clone, Copy)]
+struct LiteralReader;
+
+impl Reader<Datum> for LiteralReader {
+    ghost reads = { λ _. literal_at };
+
+    fn read<'a>(&self, alloc: Global, tokens: &'a [Tok<'a>]) -> Read<'a, Datum> {
+        literal(alloc, tokens)
     }
-    Ok((list, rest))
 }
 
 // A row in parentheses.
@@ -219,27 +203,21 @@ fn tuple<'a>(alloc: Global, tokens: &'a [Tok<'a>]) -> Read<'a, Row>
     ensures { Gives (λ x. (x.0, x.1.now)) result (tuple_at tokens.now) }
 {
     let rest = expect(Key::Open, tokens)?;
-    let (values, rest) = literals(alloc, rest)?;
+    let (values, rest) = listed(alloc, Key::Comma, &LiteralReader, rest)?;
     let rest = expect(Key::Close, rest)?;
     Ok((Row::from_vec(values), rest))
 }
 
-// One row or more with commas between.
-fn tuples<'a>(alloc: Global, tokens: &'a [Tok<'a>]) -> Read<'a, Vec<Row>>
-    ensures { Gives (λ x. (x.0.items, x.1.now)) result (listed k.Comma tuple_at tokens.now) }
-{
-    let mut list = Vec::new(alloc);
-    let (first, mut rest) = tuple(alloc, tokens)?;
-    list.push(first)?;
-    'members: for _ in 0..rest.len() {
-        let Some(next) = after(Key::Comma, rest) else {
-            return Ok((list, rest));
-        };
-        let (member, behind) = tuple(alloc, next)?;
-        list.push(member)?;
-        rest = behind;
+// Reads the rows of an INSERT.
+#[derive(Clone, Copy)]
+struct TupleReader;
+
+impl Reader<Row> for TupleReader {
+    ghost reads = { λ _. tuple_at };
+
+    fn read<'a>(&self, alloc: Global, tokens: &'a [Tok<'a>]) -> Read<'a, Row> {
+        tuple(alloc, tokens)
     }
-    Ok((list, rest))
 }
 
 // What stands behind INSERT.
@@ -249,7 +227,7 @@ fn insert<'a>(alloc: Global, tokens: &'a [Tok<'a>]) -> Read<'a, Statement>
     let rest = expect(Key::Into, tokens)?;
     let (name, rest) = name(alloc, rest)?;
     let rest = expect(Key::Values, rest)?;
-    let (rows, rest) = tuples(alloc, rest)?;
+    let (rows, rest) = listed(alloc, Key::Comma, &TupleReader, rest)?;
     let rows = Rows::from_vec(rows);
     Ok((Statement::Insert(name, rows), rest))
 }
@@ -265,11 +243,11 @@ fn delete<'a>(alloc: Global, tokens: &'a [Tok<'a>]) -> Read<'a, Statement>
 }
 
 // What stands behind SHOW.
-fn show<'a>(alloc: Global, tokens: &'a [Tok<'a>]) -> Read<'a, Statement>
+fn show<'a>(tokens: &'a [Tok<'a>]) -> Read<'a, Statement>
     ensures { Gives (λ x. (x.0, x.1.now)) result (show_at tokens.now) }
 {
-    let (word, rest) = name(alloc, tokens)?;
-    if word.as_bytes() == b"frontiers".as_slice() {
+    let (word, rest) = word(tokens)?;
+    if word.is("frontiers") {
         Ok((Statement::ShowFrontiers, rest))
     } else {
         Err(stuck(tokens))
@@ -277,13 +255,13 @@ fn show<'a>(alloc: Global, tokens: &'a [Tok<'a>]) -> Read<'a, Statement>
 }
 
 // The policy whose word at the front of `tokens` was read.
-fn keep_word<'a>(tokens: &'a [Tok<'a>], word: &Name, behind: &'a [Tok<'a>]) -> Read<'a, Keep>
+fn keep_word<'a>(tokens: &'a [Tok<'a>], word: &Word, behind: &'a [Tok<'a>]) -> Read<'a, Keep>
     ensures { Gives (λ x. (x.0, x.1.now)) result (keep_word_at tokens.now word.now behind.now) }
 {
-    if word.as_bytes() == b"lag".as_slice() {
+    if word.is("lag") {
         let (lag, rest) = lag(behind)?;
         Ok((Keep::Lag(lag), rest))
-    } else if word.as_bytes() == b"stay".as_slice() {
+    } else if word.is("stay") {
         Ok((Keep::Stay, behind))
     } else {
         Err(stuck(tokens))
@@ -291,7 +269,7 @@ fn keep_word<'a>(tokens: &'a [Tok<'a>], word: &Name, behind: &'a [Tok<'a>]) -> R
 }
 
 // The policy of a RETAIN.
-fn keep<'a>(alloc: Global, tokens: &'a [Tok<'a>]) -> Read<'a, Keep>
+fn keep<'a>(tokens: &'a [Tok<'a>]) -> Read<'a, Keep>
     ensures { Gives (λ x. (x.0, x.1.now)) result (keep_at tokens.now) }
 {
     match after(Key::From, tokens) {
@@ -300,8 +278,8 @@ fn keep<'a>(alloc: Global, tokens: &'a [Tok<'a>]) -> Read<'a, Keep>
             Ok((Keep::From(time), rest))
         }
         None => {
-            let (word, rest) = name(alloc, tokens)?;
-            keep_word(tokens, &word, rest)
+            let (word, rest) = word(tokens)?;
+            keep_word(tokens, word, rest)
         }
     }
 }
@@ -311,7 +289,7 @@ fn retain<'a>(alloc: Global, tokens: &'a [Tok<'a>]) -> Read<'a, Statement>
     ensures { Gives (λ x. (x.0, x.1.now)) result (retain_at tokens.now) }
 {
     let (name, rest) = name(alloc, tokens)?;
-    let (keep, rest) = keep(alloc, rest)?;
+    let (keep, rest) = keep(rest)?;
     Ok((Statement::Retain(name, keep), rest))
 }
 
@@ -327,7 +305,7 @@ fn statement<'a>(alloc: Global, tokens: &'a [Tok<'a>]) -> Read<'a, Statement>
             Tok::Key(Key::Delete) => delete(alloc, rest),
             Tok::Key(Key::Begin) => Ok((Statement::Start, rest)),
             Tok::Key(Key::Commit) => Ok((Statement::Commit, rest)),
-            Tok::Key(Key::Show) => show(alloc, rest),
+            Tok::Key(Key::Show) => show(rest),
             Tok::Key(Key::Retain) => retain(alloc, rest),
             _ => top_query(alloc, tokens),
         },

@@ -4,7 +4,7 @@ use Rattle.mz_lex.specs.Fault.{IsFault, IsFirstFault}
 use Rattle.mz_lex.proofs.CutLemmas.{one_fault, not_both}
 use Rattle.mz_grammar.specs.Token.{toks_of}
 use Rattle.mz_parse.specs.Reading.{Fails, whole_at}
-use Rattle.mz_parse.specs.Faults.{IsParseFault}
+use Rattle.mz_grammar.specs.Faults.{IsParseFault}
 use Rattle.mz_parse.proofs.FaultLemmas.{fault_told}
 use Rattle.mz_parse.proofs.Parsing.{read_spelled, spelled_read, same_statement, only_memory}
 use Rattle.mz_parse.proofs.parser.parse.Goals as goal

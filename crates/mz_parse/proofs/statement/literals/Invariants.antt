@@ -1,9 +1,0 @@
-use Rattle.std.proofs.Common.{length}
-use Rattle.mz_grammar.specs.declared.key.Key.TheVariants as k
-use Rattle.mz_parse.specs.Reading.{literal_at, listed}
-use Rattle.mz_parse.proofs.Turns.{SoFar}
-use Rattle.mz_parse.proofs.statement.literals.Given as goal
-
--- what was read, with what is still to be read, is the list
-abbrev pub invariant-members : goal.invariant-members
-invariant-members l = SoFar k.Comma literal_at l.list.items (length l.initial.rest) l.counter l.rest (listed k.Comma literal_at l.fn.tokens)
