@@ -18,13 +18,12 @@ use Rattle.mz_lex.specs.Lowered.{lowered}
 use Rattle.mz_lex.specs.Quoted.{is_one_line}
 use Rattle.mz_lex.specs.Spelling.{IsWord, IsNumber, IsToken}
 use Rattle.mz_lex.proofs.QuotedLemmas.{unquoted-quoted}
-use Rattle.mz_bag.specs.Name.{begins_name, continues_name, is_name}
+use Rattle.mz_value.specs.Name.{begins_name, continues_name, is_name}
 use Rattle.mz_statement.specs.Word.{reserved_words, is_reserved, IsName}
 use Rattle.mz_grammar.specs.declared.key.Key.{Key}
 use Rattle.mz_grammar.specs.declared.key.Key.TheVariants as k
-use Rattle.mz_grammar.specs.declared.key.TheConstants.{WORDS}
 use Rattle.mz_grammar.specs.declared.token.Tok.TheVariants as t
-use Rattle.mz_grammar.specs.Token.{spelling, is_key, key_among, word_tok, tok_of}
+use Rattle.mz_grammar.specs.Token.{spelling, reserved_keys, is_key, key_among, word_tok, tok_of}
 use Rattle.mz_print.specs.Piece.{Piece, Fixed, Word, Name, Number, Text, printed, stands_for}
 use Rattle.mz_print.specs.declared.word.Unreserved.{Unreserved}
 use Rattle.mz_print.specs.declared.word.Unreserved.TheVariants as word
@@ -158,12 +157,12 @@ none_among [] name small none = refl
 none_among (key ∷ keys) name small none = none_next key keys name _ small refl none (λ others. none_among keys name small others)
 
 -- the reserved words are the keys that are words
-same_words : map (λ key. lowered (spelling key)) WORDS ≡ reserved_words
+same_words : map (λ key. lowered (spelling key)) reserved_keys ≡ reserved_words
 same_words = refl
 
 -- a name that is not reserved is no key
-name_free : (name : List ℕ) → lowered name ≡ name → is_reserved name ≡ false → key_among WORDS name ≡ None
-name_free name small free = none_among WORDS name small free
+name_free : (name : List ℕ) → lowered name ≡ name → is_reserved name ≡ false → key_among reserved_keys name ≡ None
+name_free name small free = none_among reserved_keys name small free
 
 -- and so it stands for itself
 name_tok : (name : List ℕ) → IsName name → tok_of kind.Word name ≡ t.Name name

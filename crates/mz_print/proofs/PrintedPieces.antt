@@ -1,13 +1,13 @@
 -- Each piece that is printed is read again as what it stands for.
 use Rattle.std.proofs.Common.{ℕ, ◌<◌, ◌^◌, Bool, true, false, ◌&&◌, ◌||◌, List, [], ◌∷◌, Option, Some, None, IfSome, pos, negsuc, arith}
 use Rattle.std.specs.List.{AllByRecursion as Each}
-use Rattle.mz_bag.specs.declared.datum.Datum.TheVariants as datum
+use Rattle.mz_value.specs.declared.datum.Datum.TheVariants as datum
 use Rattle.mz_statement.specs.declared.condition.Side.TheVariants as side
 use Rattle.mz_statement.specs.declared.condition.Test.{All', Any', Not', Compare, Row_of-Test, more_of-Test, end_of-Test}
 use Rattle.mz_statement.specs.declared.item.Expression.TheVariants as expression
 use Rattle.mz_statement.specs.declared.statement.Keep.TheVariants.{Lag, From, Stay}
 use Rattle.mz_statement.specs.declared.statement.Statement.{Statement}
-use Rattle.mz_statement.specs.declared.statement.Statement.TheVariants.{Query, CreateTable, CreateView, CreateIndex, DropTable, DropView, DropIndex, Insert, Delete, Start, Commit, ShowFrontiers, Retain}
+use Rattle.mz_statement.specs.declared.statement.Statement.TheVariants.{Query, CreateTable, CreateView, CreateIndex, DropTable, DropView, DropIndex, Insert, Delete, Start, Commit, ShowFrontiers, Retain, SetIsolation, SetCluster}
 use Rattle.mz_statement.specs.Item.{IsExpression, IsItem}
 use Rattle.mz_statement.specs.Query.{AreItems, IsSelect, IsQuery}
 use Rattle.mz_statement.specs.Reference.{IsReference, IsColumnName, IsColumnPair, IsJoin}
@@ -232,6 +232,8 @@ statement_pieces Start can ps are = (tt, are)
 statement_pieces Commit can ps are = (tt, are)
 statement_pieces ShowFrontiers can ps are = (tt, (tt, are))
 statement_pieces (Retain name keep) can ps are = (tt, (can.0, keep_pieces keep can.1 ps are))
+statement_pieces (SetIsolation strict) can ps are = absurd can
+statement_pieces (SetCluster name) can ps are = absurd can
 
 -- each piece of a statement that the grammar can spell is one
 pub pieces : (statement : Statement) → IsStatement statement → Each IsPiece (print_statement statement [])

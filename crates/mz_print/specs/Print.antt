@@ -1,7 +1,7 @@
 -- How a statement is printed: each rule gives the pieces of a value, and then others.
 use Rattle.std.specs.Prelude.{ℕ, suc, Bool, true, false, ◌&&◌, ◌||◌, List, [], ◌∷◌, Option, Some, None, ℤ, pos, negsuc}
-use Rattle.mz_bag.specs.declared.datum.Datum.{Datum}
-use Rattle.mz_bag.specs.declared.datum.Datum.TheVariants as datum
+use Rattle.mz_value.specs.declared.datum.Datum.{Datum}
+use Rattle.mz_value.specs.declared.datum.Datum.TheVariants as datum
 use Rattle.mz_statement.specs.declared.column.Column.{Column}
 use Rattle.mz_statement.specs.declared.column.ColumnType.{ColumnType}
 use Rattle.mz_statement.specs.declared.column.ColumnType.TheVariants as kind
@@ -19,7 +19,7 @@ use Rattle.mz_statement.specs.declared.reference.Reference.{Reference}
 use Rattle.mz_statement.specs.declared.statement.Keep.{Keep}
 use Rattle.mz_statement.specs.declared.statement.Keep.TheVariants.{Lag, From, Stay}
 use Rattle.mz_statement.specs.declared.statement.Statement.{Statement}
-use Rattle.mz_statement.specs.declared.statement.Statement.TheVariants.{Query, CreateTable, CreateView, CreateIndex, DropTable, DropView, DropIndex, Insert, Delete, Start, Commit, ShowFrontiers, Retain}
+use Rattle.mz_statement.specs.declared.statement.Statement.TheVariants.{Query, CreateTable, CreateView, CreateIndex, DropTable, DropView, DropIndex, Insert, Delete, Start, Commit, ShowFrontiers, Retain, SetIsolation, SetCluster}
 use Rattle.mz_statement.specs.Test.{is_all, is_any}
 use Rattle.mz_grammar.specs.declared.key.Key.TheVariants as k
 use Rattle.mz_grammar.specs.Grammar.{op_key}
@@ -203,6 +203,10 @@ print_keep (Lag n) ps = Word word.Lag ∷ Number n ∷ ps
 print_keep (From n) ps = Fixed k.From ∷ Number n ∷ ps
 print_keep Stay ps = Word word.Stay ∷ ps
 
+abbrev pub isolation_word : Bool → Unreserved
+isolation_word true = word.Strict
+isolation_word false = word.Session
+
 abbrev pub print_statement : Printer Statement
 print_statement (Query query as_of) ps = print_query query (print_as_of as_of ps)
 print_statement (CreateTable name columns) ps =
@@ -219,6 +223,8 @@ print_statement Start ps = Fixed k.Begin ∷ ps
 print_statement Commit ps = Fixed k.Commit ∷ ps
 print_statement ShowFrontiers ps = Fixed k.Show ∷ Word word.Frontiers ∷ ps
 print_statement (Retain name keep) ps = Fixed k.Retain ∷ Name name ∷ print_keep keep ps
+print_statement (SetIsolation strict) ps = Word word.Set ∷ Word word.Isolation ∷ Word (isolation_word strict) ∷ ps
+print_statement (SetCluster name) ps = Word word.Set ∷ Word word.Cluster ∷ Name name ∷ ps
 
 -- the text of a statement
 abbrev pub print_of : Statement → List ℕ

@@ -7,8 +7,7 @@ ghost use Rattle.mz_print.specs.Print.{print_side, closed_in, joining, print_tes
 ghost use Rattle.mz_print.specs.Joined.{print_joined, print_member};
 ghost use Rattle.mz_print.specs.Writer.{written};
 
-use crate::name::print_column;
-use crate::value::print_literal;
+use crate::list::Print;
 use crate::writer::Writer;
 use mz_grammar::Key;
 use mz_statement::{Condition, Op, Side, Test};
@@ -34,8 +33,8 @@ fn print_side(out: &mut Writer, side: &Side) -> Result<(), AllocError>
         → written out.new rest ≡ written out.old (print_side side.now rest)) }
 {
     match side {
-        Side::Column(column) => print_column(out, column),
-        Side::Literal(value) => print_literal(out, value),
+        Side::Column(column) => column.print(out),
+        Side::Literal(value) => value.print(out),
     }
 }
 
@@ -51,31 +50,15 @@ fn print_joining(out: &mut Writer, by_and: bool) -> Result<(), AllocError>
     }
 }
 
-// Whether the test is a list that is joined by AND.
-#[tactic(auto, using(mz_statement::proofs::TestRules::word_rules))]
-fn is_all(test: &Test) -> bool
-    ensures { result ≡ is_all test.now }
-{
-    matches!(test, Test::All(_))
-}
-
-// Whether the test is a list that is joined by OR.
-#[tactic(auto, using(mz_statement::proofs::TestRules::word_rules))]
-fn is_any(test: &Test) -> bool
-    ensures { result ≡ is_any test.now }
-{
-    matches!(test, Test::Any(_))
-}
-
 // Whether the test is a list.
 fn is_list(test: &Test) -> bool
     ensures { result ≡ (is_all test.now || is_any test.now) }
 {
-    is_all(test) || is_any(test)
+    test.is_all() || test.is_any()
 }
 
 // Adds a test, in parentheses or without.
-#[cycle(test)]
+#[cycle(tests)]
 fn print_closed(out: &mut Writer, is_closed: bool, test: &Test) -> Result<(), AllocError>
     ensures { OnOk result ((rest : List Piece) → written out.new rest
         ≡ written out.old (closed_in is_closed (print_test test.now) rest)) }
@@ -89,7 +72,7 @@ fn print_closed(out: &mut Writer, is_closed: bool, test: &Test) -> Result<(), Al
 }
 
 // Adds tests that are joined by AND, or else by OR.
-#[cycle(test)]
+#[cycle(tests)]
 fn print_joined(out: &mut Writer, by_and: bool, tests: &[Test]) -> Result<(), AllocError>
     ensures { OnOk result ((rest : List Piece)
         → written out.new rest ≡ written out.old (print_joined by_and tests.now rest)) }
@@ -97,16 +80,16 @@ fn print_joined(out: &mut Writer, by_and: bool, tests: &[Test]) -> Result<(), Al
     let [first, others @ ..] = tests else {
         return Ok(());
     };
-    print_closed(out, by_and && is_any(first), first)?;
+    print_closed(out, by_and && first.is_any(), first)?;
     'others: for test in others {
         print_joining(out, by_and)?;
-        print_closed(out, by_and && is_any(test), test)?;
+        print_closed(out, by_and && test.is_any(), test)?;
     }
     Ok(())
 }
 
 // Adds a test.
-#[cycle(test)]
+#[cycle(tests)]
 #[tactic(auto, using(crate::proofs::PrintRules::print_rules))]
 fn print_test(out: &mut Writer, test: &Test) -> Result<(), AllocError>
     ensures { OnOk result ((rest : List Piece)
@@ -121,7 +104,7 @@ fn print_test(out: &mut Writer, test: &Test) -> Result<(), AllocError>
             print_closed(out, is_list(test), test)
         }
         Test::Compare(column, op, side) => {
-            print_column(out, column)?;
+            column.print(out)?;
             out.key(op_key(*op))?;
             print_side(out, side)
         }

@@ -1,17 +1,17 @@
 //! Names, columns and references, as they are printed.
 ghost use Rattle.std.specs.Prelude.{◌≡◌, List, OnOk};
-ghost use Rattle.mz_grammar.specs.declared.key.Key.TheVariants as k;
-ghost use Rattle.mz_print.specs.Piece.{Piece, Fixed};
-ghost use Rattle.mz_print.specs.Print.{print_alias, print_qualified, print_column, print_reference, print_pair, print_listed, print_group};
+ghost use Rattle.mz_print.specs.Piece.{Piece};
+ghost use Rattle.mz_print.specs.Print.{print_alias, print_column, print_reference, print_pair, print_group};
 ghost use Rattle.mz_print.specs.Writer.{written};
 
+use crate::list::{Print, print_listed};
 use crate::writer::Writer;
-use mz_bag::Name;
 use mz_grammar::Key;
 use mz_statement::{ColumnName, ColumnPair, Reference};
+use mz_value::Name;
 use std::alloc::AllocError;
 
-// Adds AS and the alias, where there is one.
+/// Adds AS and the alias, where there is one. An `Err` leaves a part of the text.
 pub fn print_alias(out: &mut Writer, alias: &Option<Name>) -> Result<(), AllocError>
     ensures { OnOk result ((rest : List Piece)
         → written out.new rest ≡ written out.old (print_alias alias.now rest)) }
@@ -25,17 +25,18 @@ pub fn print_alias(out: &mut Writer, alias: &Option<Name>) -> Result<(), AllocEr
     }
 }
 
-/// Adds a column, with what qualifies it.
-pub fn print_column(out: &mut Writer, column: &ColumnName) -> Result<(), AllocError>
-    ensures { OnOk result ((rest : List Piece)
-        → written out.new rest ≡ written out.old (print_column column.now rest)) }
-{
-    match &column.qualifier {
-        None => out.name(column.name.as_str()),
-        Some(qualifier) => {
-            out.name(qualifier.as_str())?;
-            out.key(Key::Dot)?;
-            out.name(column.name.as_str())
+// A column, with what qualifies it.
+impl Print for ColumnName {
+    ghost pieces = { print_column };
+
+    fn print(&self, out: &mut Writer) -> Result<(), AllocError> {
+        match &self.qualifier {
+            None => out.name(self.name.as_str()),
+            Some(qualifier) => {
+                out.name(qualifier.as_str())?;
+                out.key(Key::Dot)?;
+                out.name(self.name.as_str())
+            }
         }
     }
 }
@@ -49,46 +50,15 @@ pub fn print_reference(out: &mut Writer, reference: &Reference) -> Result<(), Al
     print_alias(out, &reference.alias)
 }
 
-// Adds two columns that are equal.
-fn print_pair(out: &mut Writer, pair: &ColumnPair) -> Result<(), AllocError>
-    ensures { OnOk result ((rest : List Piece)
-        → written out.new rest ≡ written out.old (print_pair pair.now rest)) }
-{
-    print_column(out, &pair.left)?;
-    out.key(Key::Equal)?;
-    print_column(out, &pair.right)
-}
+// Two columns that are equal.
+impl Print for ColumnPair {
+    ghost pieces = { print_pair };
 
-/// Adds pairs of columns, joined by AND.
-pub fn print_pairs(out: &mut Writer, pairs: &[ColumnPair]) -> Result<(), AllocError>
-    ensures { OnOk result ((rest : List Piece) → written out.new rest
-        ≡ written out.old (print_listed (Fixed k.And) print_pair pairs.now rest)) }
-{
-    let [first, others @ ..] = pairs else {
-        return Ok(());
-    };
-    print_pair(out, first)?;
-    'others: for pair in others {
-        out.key(Key::And)?;
-        print_pair(out, pair)?;
+    fn print(&self, out: &mut Writer) -> Result<(), AllocError> {
+        self.left.print(out)?;
+        out.key(Key::Equal)?;
+        self.right.print(out)
     }
-    Ok(())
-}
-
-// Adds columns with commas between.
-fn print_columns(out: &mut Writer, columns: &[ColumnName]) -> Result<(), AllocError>
-    ensures { OnOk result ((rest : List Piece) → written out.new rest
-        ≡ written out.old (print_listed (Fixed k.Comma) print_column columns.now rest)) }
-{
-    let [first, others @ ..] = columns else {
-        return Ok(());
-    };
-    print_column(out, first)?;
-    'others: for column in others {
-        out.key(Key::Comma)?;
-        print_column(out, column)?;
-    }
-    Ok(())
 }
 
 /// Adds GROUP BY and its columns, where there are some.
@@ -101,7 +71,7 @@ pub fn print_group(out: &mut Writer, columns: &[ColumnName]) -> Result<(), Alloc
         [_, ..] => {
             out.key(Key::Group)?;
             out.key(Key::By)?;
-            print_columns(out, columns)
+            print_listed(out, Key::Comma, columns)
         }
     }
 }

@@ -6,8 +6,8 @@ ghost use Rattle.mz_print.specs.Print.{print_of};
 
 use crate::statement::print_statement;
 use crate::writer::Writer;
-use mz_bag::Text;
 use mz_statement::Statement;
+use mz_value::Text;
 use std::alloc::{AllocError, Global};
 
 /// The text of the statement, which is read again as the statement.

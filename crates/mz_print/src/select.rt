@@ -1,13 +1,13 @@
 //! Selects and queries, as they are printed.
 ghost use Rattle.std.specs.Prelude.{◌≡◌, List, OnOk};
-ghost use Rattle.mz_grammar.specs.declared.key.Key.TheVariants as k;
-ghost use Rattle.mz_print.specs.Piece.{Piece, Fixed};
+ghost use Rattle.mz_print.specs.Piece.{Piece};
 ghost use Rattle.mz_statement.specs.declared.item.Expression.TheVariants.{Count};
-ghost use Rattle.mz_print.specs.Print.{print_more, print_listed, print_call, print_expression, print_item, print_items, print_join, print_distinct, print_source, print_select, print_other_select, print_query};
+ghost use Rattle.mz_print.specs.Print.{print_call, print_expression, print_item, print_items, print_join, print_distinct, print_source, print_select, print_other_select, print_query};
 ghost use Rattle.mz_print.specs.Writer.{written};
 
 use crate::condition::print_where;
-use crate::name::{print_alias, print_column, print_group, print_pairs, print_reference};
+use crate::list::{Print, print_listed, print_more};
+use crate::name::{print_alias, print_group, print_reference};
 use crate::word::Unreserved;
 use crate::writer::Writer;
 use mz_grammar::Key;
@@ -21,7 +21,7 @@ fn print_call(out: &mut Writer, word: Unreserved, column: &ColumnName) -> Result
 {
     out.word(word)?;
     out.key(Key::Open)?;
-    print_column(out, column)?;
+    column.print(out)?;
     out.key(Key::Close)
 }
 
@@ -42,7 +42,7 @@ fn print_expression(out: &mut Writer, expression: &Expression) -> Result<(), All
         → written out.new rest ≡ written out.old (print_expression expression.now rest)) }
 {
     match expression {
-        Expression::Column(column) => print_column(out, column),
+        Expression::Column(column) => column.print(out),
         Expression::Count => print_count(out),
         Expression::Sum(column) => print_call(out, Unreserved::Sum, column),
         Expression::Min(column) => print_call(out, Unreserved::Min, column),
@@ -50,29 +50,14 @@ fn print_expression(out: &mut Writer, expression: &Expression) -> Result<(), All
     }
 }
 
-// Adds an item of a select, with its alias.
-fn print_item(out: &mut Writer, item: &SelectItem) -> Result<(), AllocError>
-    ensures { OnOk result ((rest : List Piece)
-        → written out.new rest ≡ written out.old (print_item item.now rest)) }
-{
-    print_expression(out, &item.expression)?;
-    print_alias(out, &item.alias)
-}
+// A column or an aggregate, with its alias.
+impl Print for SelectItem {
+    ghost pieces = { print_item };
 
-// Adds items with commas between.
-fn print_item_list(out: &mut Writer, items: &[SelectItem]) -> Result<(), AllocError>
-    ensures { OnOk result ((rest : List Piece) → written out.new rest
-        ≡ written out.old (print_listed (Fixed k.Comma) print_item items.now rest)) }
-{
-    let [first, others @ ..] = items else {
-        return Ok(());
-    };
-    print_item(out, first)?;
-    'others: for item in others {
-        out.key(Key::Comma)?;
-        print_item(out, item)?;
+    fn print(&self, out: &mut Writer) -> Result<(), AllocError> {
+        print_expression(out, &self.expression)?;
+        print_alias(out, &self.alias)
     }
-    Ok(())
 }
 
 // Adds a star, or items.
@@ -82,30 +67,19 @@ fn print_items(out: &mut Writer, items: &Option<SelectItems>) -> Result<(), Allo
 {
     match items {
         None => out.key(Key::Star),
-        Some(items) => print_item_list(out, items.as_slice()),
+        Some(items) => print_listed(out, Key::Comma, items.as_slice()),
     }
 }
 
-// Adds a relation that is joined, and its pairs of columns.
-fn print_join(out: &mut Writer, join: &Join) -> Result<(), AllocError>
-    ensures { OnOk result ((rest : List Piece)
-        → written out.new rest ≡ written out.old (print_join join.now rest)) }
-{
-    print_reference(out, &join.reference)?;
-    out.key(Key::On)?;
-    print_pairs(out, join.pairs.as_slice())
-}
+// A relation that is joined, and its pairs of columns.
+impl Print for Join {
+    ghost pieces = { print_join };
 
-// Adds joins, each behind JOIN.
-fn print_joins(out: &mut Writer, joins: &[Join]) -> Result<(), AllocError>
-    ensures { OnOk result ((rest : List Piece) → written out.new rest
-        ≡ written out.old (print_more (Fixed k.Join) print_join joins.now rest)) }
-{
-    'joins: for join in joins {
-        out.key(Key::Join)?;
-        print_join(out, join)?;
+    fn print(&self, out: &mut Writer) -> Result<(), AllocError> {
+        print_reference(out, &self.reference)?;
+        out.key(Key::On)?;
+        print_listed(out, Key::And, self.pairs.as_slice())
     }
-    Ok(())
 }
 
 // Adds DISTINCT, or nothing.
@@ -127,7 +101,7 @@ fn print_source(out: &mut Writer, select: &Select) -> Result<(), AllocError>
 {
     out.key(Key::From)?;
     print_reference(out, &select.first)?;
-    print_joins(out, select.joins.as_slice())?;
+    print_more(out, Key::Join, select.joins.as_slice())?;
     print_where(out, &select.test)?;
     print_group(out, select.group.as_slice())
 }
@@ -143,16 +117,17 @@ fn print_select(out: &mut Writer, select: &Select) -> Result<(), AllocError>
     print_source(out, select)
 }
 
-// Adds ALL and a select.
-fn print_other_select(out: &mut Writer, select: &Select) -> Result<(), AllocError>
-    ensures { OnOk result ((rest : List Piece)
-        → written out.new rest ≡ written out.old (print_other_select select.now rest)) }
-{
-    out.key(Key::All)?;
-    print_select(out, select)
+// Behind UNION, a select stands behind ALL.
+impl Print for Select {
+    ghost pieces = { print_other_select };
+
+    fn print(&self, out: &mut Writer) -> Result<(), AllocError> {
+        out.key(Key::All)?;
+        print_select(out, self)
+    }
 }
 
-/// Adds selects with UNION ALL between.
+/// Adds selects with UNION ALL between. An `Err` leaves a part of the text.
 pub fn print_query(out: &mut Writer, selects: &[Select]) -> Result<(), AllocError>
     ensures { OnOk result ((rest : List Piece)
         → written out.new rest ≡ written out.old (print_query selects.now rest)) }
@@ -161,9 +136,5 @@ pub fn print_query(out: &mut Writer, selects: &[Select]) -> Result<(), AllocErro
         return Ok(());
     };
     print_select(out, first)?;
-    'others: for select in others {
-        out.key(Key::Union)?;
-        print_other_select(out, select)?;
-    }
-    Ok(())
+    print_more(out, Key::Union, others)
 }

@@ -1,19 +1,18 @@
 //! Statements, as they are printed.
 ghost use Rattle.std.specs.Prelude.{◌≡◌, ◌∷◌, List, OnOk};
-ghost use Rattle.mz_grammar.specs.declared.key.Key.TheVariants as k;
 ghost use Rattle.mz_print.specs.Piece.{Piece, Fixed, Name as N};
-ghost use Rattle.mz_print.specs.Print.{print_listed, print_as_of, type_word, print_definition, print_keep, print_where, print_tuple, print_query, print_statement};
+ghost use Rattle.mz_print.specs.Print.{print_as_of, type_word, isolation_word, print_definition, print_keep, print_statement};
 ghost use Rattle.mz_print.specs.Writer.{written};
 ghost use Rattle.mz_statement.specs.declared.statement.Statement.TheVariants as s;
 
 use crate::condition::print_where;
+use crate::list::{Print, print_listed};
 use crate::select::print_query;
-use crate::value::print_tuples;
 use crate::word::Unreserved;
 use crate::writer::Writer;
-use mz_bag::{Name, Rows};
 use mz_grammar::Key;
 use mz_statement::{Column, ColumnType, Columns, Condition, Keep, Query, Statement};
+use mz_value::{Name, Rows};
 use std::alloc::AllocError;
 
 // Adds a name behind two keys.
@@ -53,29 +52,14 @@ fn type_word(kind: ColumnType) -> Unreserved
     }
 }
 
-// Adds a column of a table, with its type.
-fn print_definition(out: &mut Writer, column: &Column) -> Result<(), AllocError>
-    ensures { OnOk result ((rest : List Piece)
-        → written out.new rest ≡ written out.old (print_definition column.now rest)) }
-{
-    out.name(column.name.as_str())?;
-    out.word(type_word(column.kind))
-}
+// A column of a table, with its type.
+impl Print for Column {
+    ghost pieces = { print_definition };
 
-// Adds columns of a table with commas between.
-fn print_definitions(out: &mut Writer, columns: &[Column]) -> Result<(), AllocError>
-    ensures { OnOk result ((rest : List Piece) → written out.new rest
-        ≡ written out.old (print_listed (Fixed k.Comma) print_definition columns.now rest)) }
-{
-    let [first, others @ ..] = columns else {
-        return Ok(());
-    };
-    print_definition(out, first)?;
-    'others: for column in others {
-        out.key(Key::Comma)?;
-        print_definition(out, column)?;
+    fn print(&self, out: &mut Writer) -> Result<(), AllocError> {
+        out.name(self.name.as_str())?;
+        out.word(type_word(self.kind))
     }
-    Ok(())
 }
 
 // Adds what a RETAIN keeps.
@@ -112,7 +96,7 @@ fn print_create_table(out: &mut Writer, name: &Name, columns: &Columns) -> Resul
 {
     print_named(out, Key::Create, Key::Table, name)?;
     out.key(Key::Open)?;
-    print_definitions(out, columns.as_slice())?;
+    print_listed(out, Key::Comma, columns.as_slice())?;
     out.key(Key::Close)
 }
 
@@ -143,7 +127,7 @@ fn print_insert(out: &mut Writer, name: &Name, rows: &Rows) -> Result<(), AllocE
 {
     print_named(out, Key::Insert, Key::Into, name)?;
     out.key(Key::Values)?;
-    print_tuples(out, rows.as_slice())
+    print_listed(out, Key::Comma, rows.as_slice())
 }
 
 // Adds DELETE.
@@ -174,6 +158,37 @@ fn print_retain(out: &mut Writer, name: &Name, keep: Keep) -> Result<(), AllocEr
     print_keep(out, keep)
 }
 
+// The word of an isolation.
+fn isolation_word(strict: bool) -> Unreserved
+    ensures { result ≡ isolation_word strict }
+{
+    if strict {
+        Unreserved::Strict
+    } else {
+        Unreserved::Session
+    }
+}
+
+// Adds SET ISOLATION.
+fn print_set_isolation(out: &mut Writer, strict: bool) -> Result<(), AllocError>
+    ensures { OnOk result ((rest : List Piece) → written out.new rest
+        ≡ written out.old (print_statement (s.SetIsolation strict) rest)) }
+{
+    out.word(Unreserved::Set)?;
+    out.word(Unreserved::Isolation)?;
+    out.word(isolation_word(strict))
+}
+
+// Adds SET CLUSTER.
+fn print_set_cluster(out: &mut Writer, name: &Name) -> Result<(), AllocError>
+    ensures { OnOk result ((rest : List Piece) → written out.new rest
+        ≡ written out.old (print_statement (s.SetCluster name.now) rest)) }
+{
+    out.word(Unreserved::Set)?;
+    out.word(Unreserved::Cluster)?;
+    out.name(name.as_str())
+}
+
 /// Adds a statement.
 pub fn print_statement(out: &mut Writer, statement: &Statement) -> Result<(), AllocError>
     ensures { OnOk result ((rest : List Piece)
@@ -193,5 +208,7 @@ pub fn print_statement(out: &mut Writer, statement: &Statement) -> Result<(), Al
         Statement::Commit => out.key(Key::Commit),
         Statement::ShowFrontiers => print_show(out),
         Statement::Retain(name, keep) => print_retain(out, name, *keep),
+        Statement::SetIsolation(strict) => print_set_isolation(out, *strict),
+        Statement::SetCluster(name) => print_set_cluster(out, name),
     }
 }

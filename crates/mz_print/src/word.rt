@@ -17,6 +17,16 @@ pub enum Unreserved {
     Stay,
     /// `FRONTIERS`
     Frontiers,
+    /// `SET`
+    Set,
+    /// `ISOLATION`
+    Isolation,
+    /// `STRICT`
+    Strict,
+    /// `SESSION`
+    Session,
+    /// `CLUSTER`
+    Cluster,
     /// `COUNT`
     Count,
     /// `SUM`

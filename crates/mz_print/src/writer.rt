@@ -1,10 +1,9 @@
 //! A text that grows piece by piece.
-ghost use Rattle.std.specs.Prelude.{◌≡◌, ◌<◌, ◌++◌, [], ◌∷◌, List, length, false, IfOk, OnOk, IfSome, MatchOption, string_bytes};
-ghost use Rattle.std.specs.List.{flat_map};
-ghost use Rattle.mz_lex.specs.Quoted.{doubled, quoted};
+ghost use Rattle.std.specs.Prelude.{◌≡◌, ◌++◌, [], ◌∷◌, List, false, OnOk, string_bytes};
 ghost use Rattle.mz_print.specs.Piece.{Piece, Fixed, Word, Name, Number, Text, printed, edge, hugs, opens, is_spaced, space, text_of, capitals, is_call};
 ghost use Rattle.mz_print.specs.Writer.{written};
 
+use crate::quote::push_quoted;
 use crate::word::{Edge, Unreserved};
 use mz_grammar::{Key, spelling};
 use std::alloc::{AllocError, Global};
@@ -75,6 +74,11 @@ fn capitals(word: Unreserved) -> &'static str
         Unreserved::Lag => "LAG",
         Unreserved::Stay => "STAY",
         Unreserved::Frontiers => "FRONTIERS",
+        Unreserved::Set => "SET",
+        Unreserved::Isolation => "ISOLATION",
+        Unreserved::Strict => "STRICT",
+        Unreserved::Session => "SESSION",
+        Unreserved::Cluster => "CLUSTER",
         Unreserved::Count => "COUNT",
         Unreserved::Sum => "SUM",
         Unreserved::Min => "MIN",
@@ -90,40 +94,6 @@ fn edge_behind_word(word: Unreserved) -> Edge
         Unreserved::Count | Unreserved::Sum | Unreserved::Min | Unreserved::Max => Edge::Call,
         _ => Edge::Loose,
     }
-}
-
-// What stands before the first quote of a text and what stands behind it, if there is one.
-fn at_quote(text: &str) -> Option<(&str, &str)>
-    ensures parts { MatchOption result (flat_map doubled text.now ≡ text.now)
-        (λ parts. flat_map doubled text.now
-        ≡ parts.0.now ++ (39 ∷ 39 ∷ flat_map doubled parts.1.now)) }
-    ensures less { IfSome result (λ parts. length parts.1.now < length text.now) }
-{
-    text.split_once('\'')
-}
-
-// Adds the text, with each quote in it doubled.
-fn push_doubled(to: &mut String, text: &str) -> Result<(), AllocError>
-    ensures { OnOk result (string_bytes to.new
-        ≡ string_bytes to.old ++ flat_map doubled text.now) }
-{
-    let mut rest = text;
-    'quotes: while let Some(parts) = at_quote(rest) {
-        let (before, behind) = parts;
-        to.push_str(before)?;
-        to.push_str("''")?;
-        rest = behind;
-    }
-    to.push_str(rest)
-}
-
-// Adds the text in quotes.
-fn push_quoted(to: &mut String, text: &str) -> Result<(), AllocError>
-    ensures { OnOk result (string_bytes to.new ≡ string_bytes to.old ++ quoted text.now) }
-{
-    to.push_str("'")?;
-    push_doubled(to, text)?;
-    to.push_str("'")
 }
 
 // Adds a space, or none.

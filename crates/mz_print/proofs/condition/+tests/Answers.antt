@@ -2,7 +2,7 @@ use Rattle.std.proofs.Common.{◌∙◌, ap}
 use Rattle.std.proofs.lemmas.Result.{on_ok_weaker}
 use Rattle.mz_print.specs.Writer.{written}
 use Rattle.mz_print.proofs.PrintRules.{print_of_negated}
-use Rattle.mz_print.proofs.condition.+test.Goals as goal
+use Rattle.mz_print.proofs.condition.+tests.Goals as goal
 
 -- NOT stands before the test in its parentheses
 pub print_test-returns-in_ok-key-in-Not : goal.print_test-returns-in_ok-key-in-Not

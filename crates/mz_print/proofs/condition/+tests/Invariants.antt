@@ -3,7 +3,7 @@ use Rattle.mz_print.specs.Piece.{Piece}
 use Rattle.mz_print.specs.Print.{print_more, joining}
 use Rattle.mz_print.specs.Joined.{print_member}
 use Rattle.mz_print.specs.Writer.{written}
-use Rattle.mz_print.proofs.condition.+test.Given as goal
+use Rattle.mz_print.proofs.condition.+tests.Given as goal
 
 -- with what is still to come, it is what it was to be
 abbrev pub invariant-print_joined-others : goal.invariant-print_joined-others

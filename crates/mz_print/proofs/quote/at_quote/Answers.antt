@@ -1,5 +1,5 @@
 use Rattle.mz_print.proofs.Writing.{doubled_parts}
-use Rattle.mz_print.proofs.writer.at_quote.Goals as goal
+use Rattle.mz_print.proofs.quote.at_quote.Goals as goal
 
 -- by the first quote
 pub returns-clause-parts : goal.returns-clause-parts

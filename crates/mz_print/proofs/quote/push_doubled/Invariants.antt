@@ -3,7 +3,7 @@ use denote.Text.{Utf8}
 use denote.Shadow.{shadow}
 use Rattle.std.specs.List.{flat_map}
 use Rattle.mz_lex.specs.Quoted.{doubled}
-use Rattle.mz_print.proofs.writer.push_doubled.Given as goal
+use Rattle.mz_print.proofs.quote.push_doubled.Given as goal
 
 -- what is left is added at last
 abbrev pub invariant-quotes : goal.invariant-quotes
