@@ -9,9 +9,9 @@ use Rattle.mz_grammar.specs.declared.token.Tok.{Tok}
 use Rattle.mz_grammar.specs.declared.token.Tok.TheVariants.{Key, Name, Number, Text}
 use Rattle.mz_grammar.specs.Token.{toks_of}
 use Rattle.mz_grammar.specs.Grammar.{Spells, IsSpelling}
-use Rattle.mz_parse.specs.declared.fault.ParseFault.{ParseFault}
-use Rattle.mz_parse.specs.declared.fault.ParseFault.TheVariants.{Syntax, LiteralRange, Memory}
-use Rattle.mz_parse.specs.Faults.{Viable, IsLike, IsStuck, IsOutOfRange, place_of, literal_start, IsSyntaxAt, IsRangeAt, IsParseFault}
+use Rattle.mz_grammar.specs.declared.fault.ParseFault.{ParseFault}
+use Rattle.mz_grammar.specs.declared.fault.ParseFault.TheVariants.{Syntax, LiteralRange, Memory}
+use Rattle.mz_grammar.specs.Faults.{Viable, IsLike, IsStuck, IsOutOfRange, place_of, literal_start, IsSyntaxAt, IsRangeAt, IsParseFault}
 
 -- ---- fronts of the same tokens
 

@@ -3,10 +3,12 @@ use Rattle.std.proofs.Common.{◌≡◌, ◌≢◌, ℕ, List, Result, Ok, Err, 
 use Rattle.mz_statement.specs.declared.statement.Statement.{Statement}
 use Rattle.mz_statement.specs.Statement.{IsStatement}
 use Rattle.mz_grammar.specs.Grammar.{IsSpelling}
-use Rattle.mz_parse.specs.declared.fault.ParseFault.{ParseFault}
-use Rattle.mz_parse.specs.declared.fault.ParseFault.TheVariants.{Memory}
+use Rattle.mz_grammar.specs.Faults.{IsParseFault}
+use Rattle.mz_grammar.specs.declared.fault.ParseFault.{ParseFault}
+use Rattle.mz_grammar.specs.declared.fault.ParseFault.TheVariants.{Memory}
 use Rattle.mz_print.specs.Print.{print_of}
 use Rattle.mz_sql.specs.Form.{HasForm}
+use Rattle.mz_sql.proofs.FaultLemmas.{one_fault, no_fault}
 
 -- what was made of a text
 abbrev Made : Type 0
@@ -64,3 +66,14 @@ pub no_other_fault : (fault : ParseFault) (statement : Statement)
     → unmade fault ≢ Err Memory → unmade fault ≡ Ok (print_of statement)
 no_other_fault fault statement only some =
     absurd (not_found fault statement (only (λ e. some (ap unmade (failed_is fault Memory e)))))
+
+-- a text that spells a statement has no fault but want of memory
+pub no_place : (text : List ℕ) (statement : Statement) (fault : ParseFault) (made : Made) → IsSpelling text statement
+    → IsParseFault text fault → fault ≢ Memory → made ≡ Err fault
+no_place text statement fault made spelled is some = absurd (some (no_fault text statement fault spelled is))
+
+-- the fault that was found is the text's one
+pub place_found : (text : List ℕ) (found fault : ParseFault) → IsParseFault text found → IsParseFault text fault → fault ≢ Memory
+    → unmade found ≢ Err Memory → unmade found ≡ Err fault
+place_found text found fault first second some made =
+    ap unmade (one_fault text found fault first second (λ e. made (ap unmade e)) some)

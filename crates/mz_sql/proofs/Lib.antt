@@ -1,2 +1,4 @@
+pub mod AskedLemmas
+pub mod CuttingLemmas
 pub mod FaultLemmas
 pub mod FormLemmas

@@ -3,28 +3,17 @@ ghost use Rattle.std.specs.Prelude.{◌≡◌, ◌≢◌, IfOk, IfErr};
 ghost use Rattle.mz_statement.specs.declared.statement.Statement.{Statement};
 ghost use Rattle.mz_statement.specs.Statement.{IsStatement};
 ghost use Rattle.mz_grammar.specs.Grammar.{IsSpelling};
-ghost use Rattle.mz_parse.specs.Faults.{IsParseFault};
-ghost use Rattle.mz_parse.specs.declared.fault.ParseFault.{ParseFault};
+ghost use Rattle.mz_grammar.specs.Faults.{IsParseFault};
+ghost use Rattle.mz_grammar.specs.declared.fault.ParseFault.{ParseFault};
 ghost use Rattle.mz_print.specs.Print.{print_of};
 ghost use Rattle.mz_sql.specs.Form.{HasForm};
 
-use mz_bag::Text;
 use mz_grammar::laws::spelled_is_statement;
 use mz_parse::{ParseFault, parse};
 use mz_print::print;
 use mz_statement::Statement;
+use mz_value::Text;
 use std::alloc::Global;
-
-/// What is read from the printed text of the statement: the statement itself, unless memory runs out.
-///
-/// The time grows with the printed text.
-pub fn read_again(alloc: Global, statement: &Statement) -> Result<Statement, ParseFault>
-    ensures { IsStatement statement.now → result ≢ Err ParseFault.Memory
-        → result ≡ Ok statement.now }
-{
-    let text = print(alloc, statement)?;
-    parse(alloc, &text)
-}
 
 // The printed text of the statement, which is let go.
 fn form_of(alloc: Global, statement: Statement) -> Result<Text, ParseFault>
@@ -51,6 +40,10 @@ pub fn normalized(alloc: Global, text: &Text) -> Result<Text, ParseFault>
 
     // Any other text is refused with its fault.
     ensures fault { IfErr result (λ fault. IsParseFault text.now fault) }
+
+    // Unless memory runs out, a text that has a fault is refused with this one.
+    ensures place { (fault : ParseFault) → IsParseFault text.now fault
+        → fault ≢ ParseFault.Memory → result ≢ Err ParseFault.Memory → result ≡ Err fault }
 {
     spelled_is_statement();
     match parse(alloc, text) {

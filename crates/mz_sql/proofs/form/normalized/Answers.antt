@@ -1,4 +1,4 @@
-use Rattle.mz_sql.proofs.FormLemmas.{has_form, only_form, no_other_fault}
+use Rattle.mz_sql.proofs.FormLemmas.{has_form, only_form, no_other_fault, no_place, place_found}
 use Rattle.mz_sql.proofs.form.normalized.Goals as goal
 
 -- what is printed is the form
@@ -18,3 +18,13 @@ returns-in-Ok-clause-only c statement spelled some =
 pub returns-in-Err-clause-only : goal.returns-in-Err-clause-only
 returns-in-Err-clause-only c statement spelled some =
     no_other_fault c.in-Err.fault statement (c.in-Err.ensures.only statement spelled) some
+
+-- it has no fault
+pub returns-in-Ok-clause-place : goal.returns-in-Ok-clause-place
+returns-in-Ok-clause-place c fault is some made =
+    no_place c.args.text.now c.in-Ok.statement fault c.form_of.result c.in-Ok.ensures.ok is some
+
+-- and any other text has the fault that was found
+pub returns-in-Err-clause-place : goal.returns-in-Err-clause-place
+returns-in-Err-clause-place c fault is some made =
+    place_found c.args.text.now c.in-Err.fault fault c.in-Err.ensures.fault is some made
