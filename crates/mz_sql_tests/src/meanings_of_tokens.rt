@@ -1,6 +1,6 @@
 //! Tokens with what they stand for, read off the grammar by hand.
 
-use crate::{Key, Tok, after, toks};
+use mz_grammar::{Key, Tok, after, toks};
 use mz_lex::tokens;
 use std::alloc::Global;
 use std::test::Fail;
