@@ -1,10 +1,12 @@
 -- The number of each refusal, and the text that is written behind it.
 use Rattle.std.specs.Prelude.{ℕ, List, ◌++◌, codes}
 use Rattle.std.specs.Fmt.{decimal}
-use Rattle.mz_plan.specs.declared.refusal.Limited.{Limited}
-use Rattle.mz_plan.specs.declared.refusal.Limited.TheVariants.{Columns, Items, Sessions, Replicas, Calls, Feeds}
-use Rattle.mz_plan.specs.declared.refusal.Refusal.{Refusal}
-use Rattle.mz_plan.specs.declared.refusal.Refusal.TheVariants.{Syntax, UnknownName, UnknownColumn, NameTaken, WrongType, LiteralRange, TooManyLeaves, HasDependents, TableFull, Busy, BeforeSession, BeforeSince, AfterRead, CatalogMoved, InTransaction, NoTransaction, TooMany, TimeSpent, Closed, BelowHold}
+use Rattle.mz_refusal.specs.declared.fault.CallFault.{CallFault}
+use Rattle.mz_refusal.specs.declared.fault.CallFault.TheVariants.{Refused, Memory}
+use Rattle.mz_refusal.specs.declared.refusal.Limited.{Limited}
+use Rattle.mz_refusal.specs.declared.refusal.Limited.TheVariants.{Columns, Items, Sessions, Replicas, Calls, Feeds, Clusters}
+use Rattle.mz_refusal.specs.declared.refusal.Refusal.{Refusal}
+use Rattle.mz_refusal.specs.declared.refusal.Refusal.TheVariants.{Syntax, UnknownName, UnknownColumn, NameTaken, WrongType, LiteralRange, TooManyLeaves, HasDependents, TableFull, Busy, BeforeSession, BeforeSince, AfterRead, CatalogMoved, InTransaction, NoTransaction, TooMany, TimeSpent, Closed, BelowHold}
 
 -- the number of a cause
 abbrev pub refusal_number : Refusal → ℕ
@@ -37,6 +39,7 @@ limited_text Sessions = codes "sessions"
 limited_text Replicas = codes "replicas"
 limited_text Calls = codes "calls"
 limited_text Feeds = codes "feeds"
+limited_text Clusters = codes "clusters"
 
 -- the text of a cause, with its numbers in decimal
 abbrev pub refusal_text : Refusal → List ℕ
@@ -60,3 +63,8 @@ refusal_text (TooMany what limit) = codes ": " ++ (limited_text what ++ (codes "
 refusal_text (TimeSpent last) = codes ": last " ++ decimal last
 refusal_text Closed = codes ": closed"
 refusal_text (BelowHold at asked) = codes ": at " ++ (decimal at ++ (codes ", asked " ++ decimal asked))
+
+-- the text of a fault: a refusal with its number before it
+abbrev pub fault_text : CallFault → List ℕ
+fault_text (Refused refusal) = codes "refused " ++ (decimal (refusal_number refusal) ++ refusal_text refusal)
+fault_text Memory = codes "out of memory"

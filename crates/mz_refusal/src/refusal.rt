@@ -1,15 +1,15 @@
 //! Why a call is refused, with the number and the text of each cause.
 ghost use Rattle.std.specs.Prelude.{◌≡◌, Some, IfOk};
-ghost use Rattle.mz_plan.specs.Refusal.{refusal_number, refusal_text, limited_text};
+ghost use Rattle.mz_refusal.specs.Refusal.{refusal_number, refusal_text, limited_text};
 
-use mz_bag::{Name, Text};
 use mz_time::Time;
+use mz_value::{Name, Text};
 use std::alloc::{AllocError, Global};
 use std::fmt;
 use thiserror::Error;
 
 /// What there may be only so many of.
-#[derive(Clone, Copy, Debug, PartialEq, Eq)]
+#[derive(Clone, Copy, Debug)]
 pub enum Limited {
     /// The columns of a table, a view or a result.
     Columns,
@@ -23,6 +23,8 @@ pub enum Limited {
     Calls,
     /// The numbered feeds of a script.
     Feeds,
+    /// The clusters.
+    Clusters,
 }
 
 impl fmt::Display for Limited {
@@ -36,12 +38,13 @@ impl fmt::Display for Limited {
             Limited::Replicas => f.write_str("replicas"),
             Limited::Calls => f.write_str("calls"),
             Limited::Feeds => f.write_str("feeds"),
+            Limited::Clusters => f.write_str("clusters"),
         }
     }
 }
 
 /// Why a call is refused. It is written as the text that stands behind its number.
-#[derive(Debug, PartialEq, Eq, Drop, Error)]
+#[derive(Debug, Drop, Error)]
 pub enum Refusal {
     /// The token at this place can't go on a statement.
     Syntax { at: u64 },
@@ -75,7 +78,7 @@ pub enum Refusal {
     InTransaction,
     /// The session is in no transaction.
     NoTransaction,
-    /// There would be more than may be.
+    /// There would be more of these than may be.
     TooMany { what: Limited, limit: u64 },
     /// No time is left for a round.
     TimeSpent { last: Time },
