@@ -1,6 +1,6 @@
 -- What a condition means in each of its forms, as code matches it.
 use Rattle.std.proofs.Common.{◌≡◌, refl, not, ◌&&◌, ◌||◌, List}
-use Rattle.mz_bag.specs.declared.datum.Datum.{Datum}
+use Rattle.mz_value.specs.declared.datum.Datum.{Datum}
 use Rattle.mz_plan.specs.Condition.{holds}
 use Rattle.mz_plan.specs.declared.condition.Cond.{Cond, And, Or, Not}
 

@@ -1,10 +1,10 @@
 -- What an aggregate tells of the rows of a group.
 use Rattle.std.specs.Prelude.{ℕ, ℤ, pos, ◌+ℤ◌, ◌*ℤ◌, List, [], ◌∷◌, Option, None, Some, map, fold, false, if◌then◌else◌}
 use Rattle.std.specs.Ordering.{is_le, is_ge}
-use Rattle.mz_bag.specs.Datum.{datum_cmp}
+use Rattle.mz_value.specs.Datum.{datum_cmp}
 use Rattle.mz_bag.specs.Weighted.{Weighted}
-use Rattle.mz_bag.specs.declared.datum.Datum.{Datum}
-use Rattle.mz_bag.specs.declared.datum.Datum.TheVariants.{Bool as Truth, Wide}
+use Rattle.mz_value.specs.declared.datum.Datum.{Datum}
+use Rattle.mz_value.specs.declared.datum.Datum.TheVariants.{Bool as Truth, Wide}
 use Rattle.mz_plan.specs.Value.{value_at, number_of}
 use Rattle.mz_plan.specs.declared.aggregate.Aggregate.{Aggregate}
 use Rattle.mz_plan.specs.declared.aggregate.Aggregate.TheVariants.{Count, Sum, Min, Max}

@@ -1,8 +1,9 @@
 -- The bound on what a plan counts, sums and multiplies.
-use Rattle.std.specs.Prelude.{◌≡◌, ℕ, ℤ, nat_abs, ◌*ℤ◌, ◌+◌, ◌^◌, ◌≤◌, ◌==◌, Bool, true, false, List, [], ◌∷◌, ◌++◌, map, ⊤}
+use Rattle.std.specs.Prelude.{◌≡◌, ℕ, ℤ, ◌*ℤ◌, ◌==◌, Bool, true, false, List, [], ◌∷◌, ◌++◌, map, ⊤}
 use Rattle.std.specs.List.{AllByRecursion as Each}
+use Rattle.mz_bag.specs.Mass.{IsLight}
 use Rattle.mz_bag.specs.Weighted.{Weighted}
-use Rattle.mz_bag.specs.declared.datum.Datum.{Datum}
+use Rattle.mz_value.specs.declared.datum.Datum.{Datum}
 use Rattle.mz_plan.specs.Meaning.{Leaves, meaning, index_rows, table_rows}
 use Rattle.mz_plan.specs.Operators.{joined}
 use Rattle.mz_plan.specs.Value.{number_of, value_at}
@@ -10,15 +11,6 @@ use Rattle.mz_plan.specs.declared.aggregate.Aggregate.{Aggregate}
 use Rattle.mz_plan.specs.declared.aggregate.Aggregate.TheVariants.{Count, Sum, Min, Max}
 use Rattle.mz_plan.specs.declared.plan.Plan.{Plan, Table, Index, Filter', Project', Join', Union', Group', Distinct', more_of-Plan, end_of-Plan}
 use Rattle.mz_plan.specs.declared.tables.TableBags.{TableBags}
-
--- the sum of the weights without their signs
-abbrev pub mass : Weighted → ℕ
-mass [] = 0
-mass (w ∷ ws) = nat_abs w.1 + mass ws
-
--- a list is light where this is at most 2^100: any sum of some of its weights is then from -2^100 to 2^100
-pub record IsLight (ws : Weighted) : Type 0 where
-  pub within : mass ws ≤ 2 ^ 100
 
 -- each row with its weight times what a function gives of it
 abbrev pub weighed : (List Datum → ℤ) → Weighted → Weighted
@@ -66,15 +58,4 @@ IsBoundedOver tables plans plan = IsBounded tables (index_rows tables plans) (in
 
 -- a plan is bounded over tables, and over the indexes that were made of them, the newest first
 pub record IsBoundedIn (tables : TableBags) (plan : Plan) : Type 0 where
-  pub bounded : IsBoundedOver (table_rows tables.bags.items) tables.plans.items plan
-
--- a plan is bounded over the indexes with these plans, the newest first, and these are its rows
-pub record IsBoundedWith (tables : Leaves) (plans : List (ℕ × Plan)) (plan : Plan) (rows : Weighted) : Type 0 where
-  pub bounded : IsBoundedOver tables plans plan
-  pub same : rows ≡ meaning tables (index_rows tables plans) plan
-
--- the plan of an index is bounded, and these are its rows
-pub record IsBoundedIndex (tables : Leaves) (plans : List (ℕ × Plan)) (item : ℕ) (rows : Weighted) : Type 0 where
-  pub bounded : index_bounded tables plans item
-  pub light : IsLight rows
-  pub same : rows ≡ index_rows tables plans item
+  pub bounded : IsBoundedOver (table_rows tables.bags.items) tables.plans plan

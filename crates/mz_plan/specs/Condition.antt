@@ -2,7 +2,7 @@
 use Rattle.std.specs.Prelude.{Bool, not, ◌&&◌, ◌||◌, List}
 use Rattle.std.specs.Ordering.{is_eq, is_lt, is_le, is_gt, is_ge}
 use Rattle.std.specs.declared.cmp.Ordering.{Ordering}
-use Rattle.mz_bag.specs.declared.datum.Datum.{Datum}
+use Rattle.mz_value.specs.declared.datum.Datum.{Datum}
 use Rattle.mz_statement.specs.declared.condition.Op.{Op}
 use Rattle.mz_statement.specs.declared.condition.Op.TheVariants.{Eq, Ne, Lt, Le, Gt, Ge}
 use Rattle.mz_plan.specs.Value.{value_at, value_cmp}

@@ -42,4 +42,4 @@ table_rows (table ∷ tables) item = if table.0 == item then entries table.1 els
 -- the rows of a plan over tables, and over the indexes that were made of them, the newest first
 abbrev pub meaning_of : Plan → TableBags → Weighted
 meaning_of plan tables =
-    meaning (table_rows tables.bags.items) (index_rows (table_rows tables.bags.items) tables.plans.items) plan
+    meaning (table_rows tables.bags.items) (index_rows (table_rows tables.bags.items) tables.plans) plan

@@ -1,9 +1,9 @@
 -- What each operator of a plan makes of the rows below it.
 use Rattle.std.specs.Prelude.{ℕ, Bool, ℤ, ◌*ℤ◌, List, ◌++◌, map, filter, flat_map}
 use Rattle.std.specs.FinMap.{entries, keys}
-use Rattle.mz_bag.specs.Row.{row_eq}
+use Rattle.mz_value.specs.Row.{row_eq}
 use Rattle.mz_bag.specs.Weighted.{Weighted, bag_of, each_once}
-use Rattle.mz_bag.specs.declared.datum.Datum.{Datum}
+use Rattle.mz_value.specs.declared.datum.Datum.{Datum}
 use Rattle.mz_plan.specs.Aggregate.{aggregate_of}
 use Rattle.mz_plan.specs.Value.{cells}
 use Rattle.mz_plan.specs.declared.aggregate.Aggregate.{Aggregate}

@@ -1,13 +1,22 @@
 -- Plans that read few tables, none of which is large.
 use Rattle.std.specs.Prelude.{ℕ, nat_abs, ◌+◌, ◌^◌, ◌≤◌, ◌==◌, List, [], ◌∷◌, if◌then◌else◌, ⊤}
 use Rattle.std.specs.List.{AllByRecursion as Each}
-use Rattle.mz_bag.specs.declared.datum.Datum.{Datum}
-use Rattle.mz_plan.specs.Bound.{either_of, mass}
+use Rattle.mz_value.specs.declared.datum.Datum.{Datum}
+use Rattle.mz_bag.specs.Mass.{mass}
+use Rattle.mz_plan.specs.Bound.{either_of}
 use Rattle.mz_plan.specs.Meaning.{Leaves, meaning, index_rows}
 use Rattle.mz_plan.specs.Value.{number_of, value_at}
 use Rattle.mz_plan.specs.declared.aggregate.Aggregate.{Aggregate}
 use Rattle.mz_plan.specs.declared.aggregate.Aggregate.TheVariants.{Count, Sum, Min, Max}
 use Rattle.mz_plan.specs.declared.plan.Plan.{Plan, Table, Index, Filter', Project', Join', Union', Group', Distinct', more_of-Plan, end_of-Plan}
+
+-- how many tables a query may read
+abbrev pub most_tables : ℕ
+most_tables = 4
+
+-- how many rows a table may have, each as often as it is there
+abbrev pub most_rows : ℕ
+most_rows = 65536
 
 -- how many tables a plan reads, where a table or an index that it names twice is read twice, and an
 -- index reads the tables of its own plan
@@ -56,8 +65,8 @@ index_summing tables (newest ∷ older) item =
     either_of (newest.0 == item) (IsSummingInts tables (index_rows tables older) (index_summing tables older) newest.1)
     (index_summing tables older item)
 
--- at most four tables are read, each of at most 65,536 rows with multiplicity, and each SUM takes INTs alone
+-- no more tables are read than a query may, each has no more rows than a table may, and each SUM takes INTs alone
 pub record IsSmall (tables : Leaves) (plans : List (ℕ × Plan)) (plan : Plan) : Type 0 where
-  pub few : tables_read (index_reads plans) plan ≤ 4
-  pub rows : (item : ℕ) → mass (tables item) ≤ 65536
+  pub few : tables_read (index_reads plans) plan ≤ most_tables
+  pub rows : (item : ℕ) → mass (tables item) ≤ most_rows
   pub summing : IsSummingInts tables (index_rows tables plans) (index_summing tables plans) plan

@@ -2,9 +2,9 @@
 use Rattle.std.specs.Prelude.{ℕ, ℤ, pos, List, get_or, map, false}
 use Rattle.std.specs.Ordering.{int_cmp}
 use Rattle.std.specs.declared.cmp.Ordering.{Ordering}
-use Rattle.mz_bag.specs.Datum.{datum_cmp}
-use Rattle.mz_bag.specs.declared.datum.Datum.{Datum}
-use Rattle.mz_bag.specs.declared.datum.Datum.TheVariants.{Int, Text, Bool as Truth, Wide}
+use Rattle.mz_value.specs.Datum.{datum_cmp}
+use Rattle.mz_value.specs.declared.datum.Datum.{Datum}
+use Rattle.mz_value.specs.declared.datum.Datum.TheVariants.{Int, Text, Bool as Truth, Wide}
 
 -- the value of a row at a place, counted from 0 at the left. FALSE where the row ends before it
 abbrev pub value_at : List Datum → ℕ → Datum

@@ -6,8 +6,8 @@ use mz_bag::CountedRows;
 use mz_time::{Frontier, Time};
 use std::alloc::{AllocError, Global};
 
-/// One command of a replica's stream.
-#[derive(Debug, Drop)]
+/// One line of a replica's stream: what the replica is told to do.
+#[derive(Drop)]
 pub enum Command {
     /// Makes a collection with this plan, readable from a time on.
     Create {
@@ -33,7 +33,7 @@ pub enum Command {
 }
 
 impl Command {
-    /// A copy of the command. Only a plan takes memory.
+    /// A copy of the line. Only a plan takes memory.
     pub fn try_copy(&self, alloc: Global) -> Result<Command, AllocError>
         ensures { IfOk result (λ copy. copy ≡ self.now) }
     {
@@ -65,6 +65,21 @@ impl Command {
     }
 }
 
+/// A peek that was asked for and isn't answered yet.
+#[derive(Clone, Copy, Debug, PartialEq, Eq)]
+pub struct PendingPeek {
+    /// Its number.
+    pub peek: u64,
+    /// The session that waits for it.
+    pub session: u64,
+    /// The call of that session that it answers.
+    pub call: u64,
+    /// The collection that is read.
+    pub collection: u64,
+    /// The time at which it is read.
+    pub time: Time,
+}
+
 /// Where a replica stands.
 #[derive(Clone, Copy, Debug, PartialEq, Eq)]
 pub struct Place {
@@ -72,14 +87,14 @@ pub struct Place {
     pub incarnation: u64,
     /// How many turns it has made since it joined.
     pub turn: u64,
-    /// How many commands of its stream it has taken.
+    /// How many lines of its stream it has taken.
     pub taken: u64,
     /// The first time for which it has no contents of tables.
     pub ready: u64,
 }
 
 /// The answer to a peek.
-#[derive(Debug, PartialEq, Eq, Drop)]
+#[derive(Drop)]
 pub struct Answer {
     /// The number of the peek.
     pub peek: u64,

@@ -3,14 +3,14 @@ ghost use Rattle.std.specs.Prelude.{◌≡◌, ◌&&◌, ◌||◌, IfOk};
 ghost use Rattle.mz_plan.specs.Condition.{holds, op_holds};
 
 use crate::value::{compare, value_or};
-use mz_bag::{Datum, Row};
 use mz_statement::Op;
+use mz_value::{Datum, Row, TryCopy};
 use sqlite_items::Boxed;
 use std::alloc::{AllocError, Global};
 use std::cmp::Ordering;
 
 /// What a column is compared with.
-#[derive(Debug, PartialEq, Eq, Drop)]
+#[derive(Drop)]
 pub enum Operand {
     /// The column at this place of the same row.
     Place(u64),
@@ -31,7 +31,7 @@ impl Operand {
 }
 
 /// A condition on a row.
-#[derive(Debug, Drop)]
+#[derive(Drop)]
 pub enum Cond {
     /// Both conditions hold.
     And(Boxed<Cond>, Boxed<Cond>),

@@ -6,7 +6,7 @@ use sqlite_items::Boxed;
 use std::alloc::{AllocError, Global};
 
 /// A query over items that are named by their numbers. `specs/Meaning.antt` says what rows it gives.
-#[derive(Debug, Drop)]
+#[derive(Drop)]
 pub enum Plan {
     /// The rows of a table.
     Table(u64),

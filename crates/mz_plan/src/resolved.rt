@@ -2,12 +2,12 @@
 ghost use Rattle.std.specs.Prelude.{◌≡◌, IfOk};
 
 use crate::{Cond, Plan};
-use mz_bag::{Name, Rows};
 use mz_statement::{Columns, Statement};
+use mz_value::{Name, Rows};
 use std::alloc::{AllocError, Global};
 
 /// A command or a query whose names are the numbers of items and places of columns.
-#[derive(Debug, Drop)]
+#[derive(Drop)]
 pub enum Resolved {
     /// Makes a table with these columns.
     CreateTable(Name, Columns),

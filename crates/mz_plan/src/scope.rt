@@ -5,7 +5,7 @@ use crate::CatalogItems;
 use std::alloc::{AllocError, Global};
 
 /// The items that a statement may name, and the cluster whose indexes it may use.
-#[derive(Debug, Drop)]
+#[derive(Drop)]
 pub struct Scope {
     /// The items, in order of creation.
     pub items: CatalogItems,

@@ -2,7 +2,7 @@
 ghost use Rattle.std.specs.Prelude.{◌≡◌, get_or, IfOk};
 ghost use Rattle.mz_plan.specs.Value.{cells, value_at, value_cmp};
 
-use mz_bag::{Datum, Row};
+use mz_value::{Datum, Row, TryCopy};
 use std::alloc::{AllocError, Global};
 use std::cmp::Ordering;
 
