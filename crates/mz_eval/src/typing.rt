@@ -1,11 +1,11 @@
 //! The columns of a plan.
 ghost use Rattle.std.specs.Prelude.{◌≡◌, ◌++◌, List, true, slice_get, filter_map, IfOk, OnOk};
-ghost use Rattle.mz_bag.specs.Name.{is_name};
+ghost use Rattle.mz_value.specs.Name.{is_name};
 ghost use Rattle.mz_plan.specs.Typed.{aggregate_column, columns_at, item_columns, kind_columns, own_columns, plan_columns, relation_columns, renamed};
 
-use crate::{Aggregate, Item, ItemKind, Plan, Scope};
-use mz_bag::Name;
+use mz_plan::{Aggregate, Item, ItemKind, Plan, Scope};
 use mz_statement::{Column, ColumnType, Columns};
+use mz_value::{Name, TryCopy};
 use std::alloc::{AllocError, Global};
 
 // A copy of the columns of a table or a view. None for an index.
@@ -150,7 +150,7 @@ fn group_columns(
 }
 
 // The columns of a plan over some items.
-#[tactic(auto, using(crate::proofs::TypeRules::column_rules))]
+#[tactic(auto, using(mz_plan::proofs::TypeRules::column_rules))]
 fn plan_columns(alloc: Global, plan: &Plan, items: &[Item]) -> Result<Vec<Column>, AllocError>
     ensures { IfOk result (λ columns. columns.items ≡ plan_columns items.now plan.now) }
 {
@@ -177,8 +177,9 @@ fn plan_columns(alloc: Global, plan: &Plan, items: &[Item]) -> Result<Vec<Column
     }
 }
 
-/// The columns of a plan in a scope, with their names and types. A place past the columns that it is
-/// used on gives none, and so does an item that isn't in the scope.
+/// The columns of a plan in a scope, with their names and types. A table's column keeps its name, and that of an
+/// aggregate is called `count`, `sum`, `min` or `max`, where the result of a statement has the names that its query
+/// gives. A place past the columns that it is used on gives none, and so does an item that isn't in the scope.
 pub fn typed(alloc: Global, plan: &Plan, scope: &Scope) -> Result<Columns, AllocError>
     ensures { IfOk result (λ columns. columns ≡ plan_columns scope.now.items plan.now) }
 {

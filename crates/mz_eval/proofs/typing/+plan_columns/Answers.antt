@@ -2,7 +2,7 @@ use Rattle.std.proofs.Common.{◌≡◌, ◌++◌, List, IfOk, filter_map, sym, 
 use Rattle.mz_statement.specs.declared.column.Column.{Column}
 use Rattle.mz_plan.specs.Typed.{aggregate_column, columns_at, plan_columns}
 use Rattle.mz_plan.proofs.TypeRules.{columns_of_group, columns_of_join, columns_of_project}
-use Rattle.mz_plan.proofs.typing.+plan_columns.Goals as goal
+use Rattle.mz_eval.proofs.typing.+plan_columns.Goals as goal
 
 -- the columns at the places
 pub returns-in_ok-columns-in-Project : goal.returns-in_ok-columns-in-Project

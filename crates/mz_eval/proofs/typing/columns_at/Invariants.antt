@@ -1,6 +1,6 @@
 use Rattle.std.proofs.Common.{◌≡◌, ◌++◌, drop}
 use Rattle.mz_plan.specs.Typed.{columns_at}
-use Rattle.mz_plan.proofs.typing.columns_at.Given as goal
+use Rattle.mz_eval.proofs.typing.columns_at.Given as goal
 
 -- the columns so far, with those of the places that are left, are all
 abbrev pub invariant-places : goal.invariant-places

@@ -1,6 +1,6 @@
 use Rattle.std.proofs.Common.{◌≡◌, drop}
 use Rattle.mz_plan.specs.Typed.{relation_columns}
-use Rattle.mz_plan.proofs.typing.relation_columns.Given as goal
+use Rattle.mz_eval.proofs.typing.relation_columns.Given as goal
 
 -- the items that are left decide
 abbrev pub invariant-items : goal.invariant-items

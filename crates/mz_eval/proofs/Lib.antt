@@ -1,0 +1,5 @@
+pub mod FoundForms
+pub mod FoundRules
+pub mod JoinMass
+pub mod PlanMeasure
+pub mod RowsRules
