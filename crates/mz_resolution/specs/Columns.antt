@@ -4,9 +4,9 @@ use Rattle.std.specs.List.{list_any}
 use Rattle.mz_statement.specs.declared.column.Column.{Column}
 use Rattle.mz_statement.specs.declared.column.ColumnType.{ColumnType}
 use Rattle.mz_statement.specs.declared.reference.ColumnName.{ColumnName}
-use Rattle.mz_plan.specs.declared.refusal.Refusal.TheVariants.{UnknownColumn}
-use Rattle.mz_log.specs.declared.relation.Referred.{Referred}
-use Rattle.mz_log.specs.Steps.{Step}
+use Rattle.mz_refusal.specs.declared.refusal.Refusal.TheVariants.{UnknownColumn}
+use Rattle.mz_resolution.specs.declared.relation.Referred.{Referred}
+use Rattle.mz_resolution.specs.Steps.{Step}
 
 -- a column that a select sees: its place among all of them, from 0 at the left; the number of its reference, from 0, and
 -- its place in the rows of that one; what that one is called; its own name and type
@@ -19,7 +19,7 @@ pub record SeenColumn : Type 0 where
   pub kind : ColumnType
 
 -- what a select sees: what each reference is called, and the columns of all, side by side
-pub record View : Type 0 where
+pub record Sight : Type 0 where
   pub called : List (List ℕ)
   pub columns : List SeenColumn
 
@@ -49,8 +49,8 @@ columns_from start owner (first ∷ others) =
     ++ columns_from (start + length first.relation.columns) (owner + 1) others
 
 -- what a select over these references sees
-abbrev pub view_of : List Referred → View
-view_of references = record { called = map (λ r. r.called) references; columns = columns_from 0 0 references }
+abbrev pub sight_of : List Referred → Sight
+sight_of references = record { called = map (λ r. r.called) references; columns = columns_from 0 0 references }
 
 -- the one member that passes, where exactly one does
 abbrev pub only_one : {A : Type 0} → (A → Bool) → List A → Option A
@@ -86,6 +86,6 @@ known column None = Err (UnknownColumn (column_text column))
 known column (Some seen) = Ok seen
 
 -- the column that a name means: there must be exactly one that it may mean, and its qualifier must be clear
-abbrev pub meant : View → ColumnName → Step SeenColumn
-meant view column =
-    known column (if is_clear column.qualifier view.called then only_one (may_mean column) view.columns else None)
+abbrev pub meant : Sight → ColumnName → Step SeenColumn
+meant sight column =
+    known column (if is_clear column.qualifier sight.called then only_one (may_mean column) sight.columns else None)

@@ -11,12 +11,12 @@ use Rattle.mz_statement.specs.declared.query.Select.{Select}
 use Rattle.mz_statement.specs.declared.reference.ColumnName.{ColumnName}
 use Rattle.mz_plan.specs.declared.aggregate.Aggregate.{Aggregate}
 use Rattle.mz_plan.specs.declared.aggregate.Aggregate.TheVariants as aggregate
-use Rattle.mz_plan.specs.declared.refusal.Refusal.TheVariants.{WrongType}
-use Rattle.mz_log.specs.declared.relation.Listed.{Listed}
-use Rattle.mz_log.specs.declared.relation.Listing.{Listing}
-use Rattle.mz_log.specs.Columns.{SeenColumn, View, column_text, meant, name_or}
-use Rattle.mz_log.specs.Conditions.{same_type}
-use Rattle.mz_log.specs.Steps.{Step, ◌>>=◌}
+use Rattle.mz_refusal.specs.declared.refusal.Refusal.TheVariants.{WrongType}
+use Rattle.mz_resolution.specs.declared.relation.ListedItem.{ListedItem}
+use Rattle.mz_resolution.specs.declared.relation.Listing.{Listing}
+use Rattle.mz_resolution.specs.Columns.{SeenColumn, Sight, column_text, meant, name_or}
+use Rattle.mz_plan.specs.Types.{same_type}
+use Rattle.mz_resolution.specs.Steps.{Step, ◌>>=◌}
 
 -- a column of a result
 abbrev pub column_as : Option (List ℕ) → List ℕ → ColumnType → Column
@@ -28,22 +28,22 @@ keys_before None = 0
 keys_before (Some keys) = length keys
 
 -- an aggregate stands behind the keys and the aggregates before it
-abbrev pub behind : Option (List ℕ) → ℕ → Column → Aggregate → Listed
+abbrev pub behind : Option (List ℕ) → ℕ → Column → Aggregate → ListedItem
 behind keys before column found =
     record { column = column; place = keys_before keys + before; aggregate = Some found }
 
 -- a column at this place; where there is none it is no key
-abbrev pub key_at : ColumnName → Column → Option ℕ → Step Listed
+abbrev pub key_at : ColumnName → Column → Option ℕ → Step ListedItem
 key_at name column None = Err (WrongType (column_text name))
 key_at name column (Some place) = Ok (record { column = column; place = place; aggregate = None })
 
 -- a column is at its place, or in a grouping at its first place among the keys, of which it has to be one
-abbrev pub plain : Option (List ℕ) → ColumnName → Column → SeenColumn → Step Listed
+abbrev pub plain : Option (List ℕ) → ColumnName → Column → SeenColumn → Step ListedItem
 plain None name column seen = Ok (record { column = column; place = seen.place; aggregate = None })
 plain (Some keys) name column seen = key_at name column (position (λ key. key == seen.place) keys)
 
 -- the column of SUM, which has to be an INT
-abbrev pub summed : Option (List ℕ) → ℕ → Option (List ℕ) → ColumnName → SeenColumn → Step Listed
+abbrev pub summed : Option (List ℕ) → ℕ → Option (List ℕ) → ColumnName → SeenColumn → Step ListedItem
 summed keys before alias name seen =
     if same_type seen.kind kind.Int
     then Ok (behind keys before (column_as alias (codes "sum") kind.Wide) (aggregate.Sum seen.place))
@@ -51,20 +51,20 @@ summed keys before alias name seen =
 
 -- an expression with the name behind AS, where there is one, and so many aggregates before it. COUNT and SUM are WIDE, MIN
 -- and MAX have the type of their column. Without AS it is called by its column or by its aggregate
-abbrev pub expressed : View → Option (List ℕ) → ℕ → Option (List ℕ) → Expression → Step Listed
-expressed view keys before alias (expression.Column name) = do
-  seen ← meant view name
+abbrev pub expressed : Sight → Option (List ℕ) → ℕ → Option (List ℕ) → Expression → Step ListedItem
+expressed sight keys before alias (expression.Column name) = do
+  seen ← meant sight name
   plain keys name (column_as alias name.name seen.kind) seen
-expressed view keys before alias expression.Count =
+expressed sight keys before alias expression.Count =
     Ok (behind keys before (column_as alias (codes "count") kind.Wide) aggregate.Count)
-expressed view keys before alias (expression.Sum name) = do
-  seen ← meant view name
+expressed sight keys before alias (expression.Sum name) = do
+  seen ← meant sight name
   summed keys before alias name seen
-expressed view keys before alias (expression.Min name) = do
-  seen ← meant view name
+expressed sight keys before alias (expression.Min name) = do
+  seen ← meant sight name
   Ok (behind keys before (column_as alias (codes "min") seen.kind) (aggregate.Min seen.place))
-expressed view keys before alias (expression.Max name) = do
-  seen ← meant view name
+expressed sight keys before alias (expression.Max name) = do
+  seen ← meant sight name
   Ok (behind keys before (column_as alias (codes "max") seen.kind) (aggregate.Max seen.place))
 
 -- 1 for an aggregate
@@ -73,11 +73,11 @@ aggregates_in None = 0
 aggregates_in (Some found) = 1
 
 -- the items in order, with so many aggregates before them
-abbrev pub items_from : View → Option (List ℕ) → ℕ → List SelectItem → Step (List Listed)
-items_from view keys before [] = Ok []
-items_from view keys before (item ∷ items) = do
-  first ← expressed view keys before item.alias item.expression
-  others ← items_from view keys (before + aggregates_in first.aggregate) items
+abbrev pub items_from : Sight → Option (List ℕ) → ℕ → List SelectItem → Step (List ListedItem)
+items_from sight keys before [] = Ok []
+items_from sight keys before (item ∷ items) = do
+  first ← expressed sight keys before item.alias item.expression
+  others ← items_from sight keys (before + aggregates_in first.aggregate) items
   Ok (first ∷ others)
 
 -- a column under its own name
@@ -85,12 +85,12 @@ abbrev pub own_column : SeenColumn → Column
 own_column seen = record { name = seen.name; kind = seen.kind }
 
 -- all columns under their own names, which is what `*` gives
-abbrev pub star : View → Option (List ℕ) → Step Listing
-star view None = Ok (record { columns = map own_column view.columns; places = None; aggregates = [] })
-star view (Some keys) = Err (WrongType (codes "*"))
+abbrev pub star : Sight → Option (List ℕ) → Step Listing
+star sight None = Ok (record { columns = map own_column sight.columns; places = None; aggregates = [] })
+star sight (Some keys) = Err (WrongType (codes "*"))
 
 -- what these items give
-abbrev pub listing_of : List Listed → Listing
+abbrev pub listing_of : List ListedItem → Listing
 listing_of items = record {
   columns = map (λ item. item.column) items;
   places = Some (map (λ item. item.place) items);
@@ -98,9 +98,9 @@ listing_of items = record {
 }
 
 -- what the items of a select give over the keys of its grouping
-abbrev pub listing : View → Option (List ℕ) → Option (List SelectItem) → Step Listing
-listing view keys None = star view keys
-listing view keys (Some items) = items_from view keys 0 items >>= λ found. Ok (listing_of found)
+abbrev pub listing : Sight → Option (List ℕ) → Option (List SelectItem) → Step Listing
+listing sight keys None = star sight keys
+listing sight keys (Some items) = items_from sight keys 0 items >>= λ found. Ok (listing_of found)
 
 -- an expression is an aggregate
 abbrev pub is_aggregate : Expression → Bool

@@ -4,18 +4,20 @@ use Rattle.mz_statement.specs.declared.column.Column.{Column}
 use Rattle.mz_statement.specs.declared.query.Select.{Select}
 use Rattle.mz_statement.specs.declared.reference.ColumnName.{ColumnName}
 use Rattle.mz_statement.specs.declared.reference.Reference.{Reference}
+use Rattle.mz_plan.specs.Small.{most_tables}
 use Rattle.mz_plan.specs.declared.aggregate.Aggregate.{Aggregate}
 use Rattle.mz_plan.specs.declared.condition.Cond.{Cond}
 use Rattle.mz_plan.specs.declared.plan.Plan.{Plan, Filter, Project, Join, Union, Group, Distinct}
-use Rattle.mz_plan.specs.declared.refusal.Limited.TheVariants.{Columns}
-use Rattle.mz_plan.specs.declared.refusal.Refusal.TheVariants.{TooMany, TooManyLeaves, WrongType}
-use Rattle.mz_log.specs.declared.relation.Listing.{Listing}
-use Rattle.mz_log.specs.declared.relation.Referred.{Referred}
-use Rattle.mz_log.specs.declared.relation.Relation.{Relation}
-use Rattle.mz_log.specs.Columns.{View, meant, name_or, view_of}
-use Rattle.mz_log.specs.Conditions.{condition, equalities, same_type}
-use Rattle.mz_log.specs.Listings.{keys_of, listing}
-use Rattle.mz_log.specs.Steps.{Step, ◌>>=◌, each}
+use Rattle.mz_refusal.specs.declared.refusal.Limited.TheVariants.{Columns}
+use Rattle.mz_refusal.specs.declared.refusal.Refusal.TheVariants.{TooMany, TooManyLeaves, WrongType}
+use Rattle.mz_resolution.specs.declared.relation.Listing.{Listing}
+use Rattle.mz_resolution.specs.declared.relation.Referred.{Referred}
+use Rattle.mz_resolution.specs.declared.relation.Relation.{Relation}
+use Rattle.mz_resolution.specs.Columns.{Sight, meant, name_or, sight_of}
+use Rattle.mz_plan.specs.Types.{same_type}
+use Rattle.mz_resolution.specs.Conditions.{condition, equalities}
+use Rattle.mz_resolution.specs.Listings.{keys_of, listing}
+use Rattle.mz_resolution.specs.Steps.{Step, ◌>>=◌, each}
 
 -- what names stand for
 abbrev pub Names : Type 0
@@ -67,24 +69,28 @@ select_of first others select pairs cond keys found = record {
   tables = first.relation.tables + tables_of others;
 }
 
--- a result has at most 16 columns
+-- how many columns a table, a view or a result may have
+abbrev pub most_columns : ℕ
+most_columns = 16
+
+-- a result has no more columns than it may have
 abbrev pub narrow : Relation → Step Relation
-narrow relation = if nat_le (length relation.columns) 16 then Ok relation else Err (TooMany Columns 16)
+narrow relation = if nat_le (length relation.columns) most_columns then Ok relation else Err (TooMany Columns most_columns)
 
 -- the place of the column that a name means
-abbrev pub place_meant : View → ColumnName → Step ℕ
-place_meant view column = do
-  seen ← meant view column
+abbrev pub place_meant : Sight → ColumnName → Step ℕ
+place_meant sight column = do
+  seen ← meant sight column
   Ok seen.place
 
 -- the relation of a select over its references: the equalities of its JOINs, its condition, its GROUP BY and its items, in this
 -- order, and last the number of its columns
-abbrev pub select_over : View → Referred → List Referred → Select → Step Relation
-select_over view first others select = do
-  pairs ← equalities view 1 select.joins
-  cond ← condition view select.test
-  places ← each (place_meant view) select.group
-  found ← listing view (keys_of select places) select.items
+abbrev pub select_over : Sight → Referred → List Referred → Select → Step Relation
+select_over sight first others select = do
+  pairs ← equalities sight 1 select.joins
+  cond ← condition sight select.test
+  places ← each (place_meant sight) select.group
+  found ← listing sight (keys_of select places) select.items
   narrow (select_of first others select pairs cond (keys_of select places) found)
 
 -- the relation of a select: first its references in order
@@ -92,7 +98,7 @@ abbrev pub selected : Names → Select → Step Relation
 selected names select = do
   first ← referred names select.first
   others ← each (λ join. referred names join.reference) select.joins
-  select_over (view_of (first ∷ others)) first others select
+  select_over (sight_of (first ∷ others)) first others select
 
 -- two lists of columns have the same types
 abbrev pub same_types : List Column → List Column → Bool
@@ -112,9 +118,9 @@ united whole (next ∷ others) =
     }) others
     else Err (WrongType (codes "union"))
 
--- a query names at most four tables
-abbrev pub light : Relation → Step Relation
-light relation = if nat_le relation.tables 4 then Ok relation else Err (TooManyLeaves relation.tables)
+-- a query names no more tables than it may
+abbrev pub small : Relation → Step Relation
+small relation = if nat_le relation.tables most_tables then Ok relation else Err (TooManyLeaves relation.tables)
 
 -- the relation of a query: each select, then their types, and last the number of tables. A query has a select
 abbrev pub queried : Names → List Select → Step Relation
@@ -123,4 +129,4 @@ queried names (select ∷ selects) = do
   first ← selected names select
   others ← each (selected names) selects
   whole ← united first others
-  light whole
+  small whole

@@ -1,40 +1,33 @@
 -- What a statement asks for in a scope, its names resolved to items and places; or the first refusal.
-use Rattle.std.specs.Prelude.{ℕ, ◌==◌, Bool, true, false, ◌&&◌, List, [], ◌∷◌, Option, None, Some, Ok, Err, bytes_eq, find, length, nat_le, option_map, reverse, if◌then◌else◌}
-use Rattle.mz_bag.specs.declared.datum.Datum.{Datum}
+use Rattle.std.specs.Prelude.{ℕ, ◌==◌, Bool, List, [], ◌∷◌, Option, None, Some, Ok, Err, bytes_eq, length, nat_le, reverse, if◌then◌else◌}
+use Rattle.mz_value.specs.declared.datum.Datum.{Datum}
 use Rattle.mz_statement.specs.declared.column.Column.{Column}
 use Rattle.mz_statement.specs.declared.query.Select.{Select}
 use Rattle.mz_statement.specs.declared.statement.Statement.{Statement}
 use Rattle.mz_statement.specs.declared.statement.Statement.TheVariants as statement
+use Rattle.mz_plan.specs.Items.{is_index, is_table, is_view, oldest_index, query_of}
+use Rattle.mz_plan.specs.Items as catalogs
 use Rattle.mz_plan.specs.declared.item.Item.{Item}
 use Rattle.mz_plan.specs.declared.item.ItemKind.{ItemKind}
 use Rattle.mz_plan.specs.declared.item.ItemKind.TheVariants.{Table, View, Index}
 use Rattle.mz_plan.specs.declared.plan.Plan.{Plan}
 use Rattle.mz_plan.specs.declared.plan.Plan.TheVariants as plan
-use Rattle.mz_plan.specs.declared.refusal.Limited.TheVariants.{Columns}
-use Rattle.mz_plan.specs.declared.refusal.Refusal.{Refusal}
-use Rattle.mz_plan.specs.declared.refusal.Refusal.TheVariants.{Syntax, TooMany, UnknownName, WrongType}
+use Rattle.mz_refusal.specs.declared.refusal.Limited.TheVariants.{Columns}
+use Rattle.mz_refusal.specs.declared.refusal.Refusal.{Refusal}
+use Rattle.mz_refusal.specs.declared.refusal.Refusal.TheVariants.{Syntax, TooMany, UnknownName, WrongType}
 use Rattle.mz_plan.specs.declared.resolved.Resolved.{Resolved}
 use Rattle.mz_plan.specs.declared.resolved.Resolved.TheVariants as resolved
 use Rattle.mz_plan.specs.declared.scope.Scope.{Scope}
-use Rattle.mz_log.specs.declared.relation.NamedRelation.{NamedRelation}
-use Rattle.mz_log.specs.declared.relation.Relation.{Relation}
-use Rattle.mz_log.specs.Columns.{columns_of}
-use Rattle.mz_log.specs.Columns as seen
-use Rattle.mz_log.specs.Conditions.{condition, same_type, type_of}
-use Rattle.mz_log.specs.Queries.{Names, queried}
-use Rattle.mz_log.specs.Steps.{Step, ◌>>=◌, unless}
+use Rattle.mz_resolution.specs.declared.relation.NamedRelation.{NamedRelation}
+use Rattle.mz_resolution.specs.declared.relation.Relation.{Relation}
+use Rattle.mz_resolution.specs.Columns.{columns_of}
+use Rattle.mz_resolution.specs.Columns as seen
+use Rattle.mz_plan.specs.Types.{same_type, type_of}
+use Rattle.mz_resolution.specs.Conditions.{condition}
+use Rattle.mz_resolution.specs.Queries.{Names, most_columns, queried}
+use Rattle.mz_resolution.specs.Steps.{Step, ◌>>=◌, unless}
 
 -- ---- relations
-
--- what is of this kind is an index on the item of this number
-abbrev pub is_on : ℕ → ItemKind → Bool
-is_on relation (Index on below) = on == relation
-is_on relation kind = false
-
--- the oldest index on the item of this number in the scope's cluster, where there is one
-abbrev pub oldest_index : Scope → ℕ → Option ℕ
-oldest_index scope relation =
-    option_map (λ item. item.id) (find (λ item. item.cluster == scope.cluster && is_on relation item.kind) scope.items)
 
 -- an index is read in place of the plan of what it is on
 abbrev pub leaf_or : Option ℕ → Plan → Plan
@@ -45,13 +38,8 @@ leaf_or (Some index) below = plan.Index index
 abbrev pub relation_of : Scope → ℕ → List Column → Plan → ℕ → NamedRelation
 relation_of scope item columns below tables = record {
   item = item;
-  relation = record { columns = columns; plan = leaf_or (oldest_index scope item) below; tables = tables };
+  relation = record { columns = columns; plan = leaf_or (oldest_index scope.items scope.cluster item) below; tables = tables };
 }
-
--- the query that a view stands for
-abbrev pub query_of : Statement → List Select
-query_of (statement.Query query as_of) = query
-query_of other = []
 
 -- what an item stands for, given what the names in a view's query do: a table is a leaf, a view is its query's plan
 abbrev pub item_relation : Scope → Names → Item → ItemKind → Step NamedRelation
@@ -89,22 +77,7 @@ item_of name (Some item) = Ok item
 
 -- the item of a name
 abbrev pub item_in : Scope → List ℕ → Step Item
-item_in scope name = item_of name (find (λ item. bytes_eq name item.name) scope.items)
-
--- a table
-abbrev pub is_table : ItemKind → Bool
-is_table (Table columns) = true
-is_table kind = false
-
--- a view
-abbrev pub is_view : ItemKind → Bool
-is_view (View columns query) = true
-is_view kind = false
-
--- an index
-abbrev pub is_index : ItemKind → Bool
-is_index (Index on below) = true
-is_index kind = false
+item_in scope name = item_of name (catalogs.named name scope.items)
 
 -- a DROP of an item, which has to be of its kind
 abbrev pub dropped : Scope → (ItemKind → Bool) → List ℕ → Step Resolved
@@ -138,8 +111,8 @@ first_misfit table columns [] = None
 first_misfit table columns (row ∷ rows) = first_of (misfit table columns row) (first_misfit table columns rows)
 
 -- what a condition over one table sees
-abbrev pub table_view : List ℕ → List Column → seen.View
-table_view table columns = record { called = table ∷ []; columns = columns_of 0 0 table 0 columns }
+abbrev pub table_sight : List ℕ → List Column → seen.Sight
+table_sight table columns = record { called = table ∷ []; columns = columns_of 0 0 table 0 columns }
 
 -- ---- statements
 
@@ -150,7 +123,7 @@ resolution scope (statement.Query query as_of) = do
   relation ← query_in scope query
   Ok (resolved.Query relation.plan)
 resolution scope (statement.CreateTable name columns) =
-    if nat_le (length columns) 16 then Ok (resolved.CreateTable name columns) else Err (TooMany Columns 16)
+    if nat_le (length columns) most_columns then Ok (resolved.CreateTable name columns) else Err (TooMany Columns most_columns)
 resolution scope (statement.CreateView name query) = do
   relation ← query_in scope query
   Ok (resolved.CreateView name relation.columns (statement.Query query None))
@@ -167,6 +140,6 @@ resolution scope (statement.Insert name rows) = do
 resolution scope (statement.Delete name test) = do
   item ← item_in scope name
   columns ← table_columns name item.kind
-  cond ← condition (table_view name columns) test
+  cond ← condition (table_sight name columns) test
   Ok (resolved.Delete item.id cond)
 resolution scope other = Err (Syntax 0)

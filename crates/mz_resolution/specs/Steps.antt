@@ -1,6 +1,6 @@
 -- Steps that may be refused. The first refusal stands for all that comes behind it.
 use Rattle.std.specs.Prelude.{List, [], ◌∷◌, Option, None, Some, Result, Ok, Err}
-use Rattle.mz_plan.specs.declared.refusal.Refusal.{Refusal}
+use Rattle.mz_refusal.specs.declared.refusal.Refusal.{Refusal}
 
 -- what a step gives, or the refusal that it meets
 abbrev pub Step : Type 0 → Type 0

@@ -1,11 +1,11 @@
 //! What names and items of a query stand for. The definition of resolution speaks of these.
 
-use mz_bag::Name;
 use mz_plan::{Aggregate, Aggregates, Places, Plan};
 use mz_statement::{Column, Columns};
+use mz_value::Name;
 
 /// A relation that a query may read, or that it gives.
-#[derive(Debug, Drop)]
+#[derive(Drop)]
 pub struct Relation {
     /// Its columns.
     pub columns: Columns,
@@ -16,7 +16,7 @@ pub struct Relation {
 }
 
 /// A table or a view with its number.
-#[derive(Debug, Drop)]
+#[derive(Drop)]
 pub struct NamedRelation {
     /// The number of the item.
     pub item: u64,
@@ -25,7 +25,7 @@ pub struct NamedRelation {
 }
 
 /// A relation under the name by which a select calls it.
-#[derive(Debug, Drop)]
+#[derive(Drop)]
 pub struct Referred {
     /// The name.
     pub called: Name,
@@ -34,8 +34,8 @@ pub struct Referred {
 }
 
 /// An item of a select.
-#[derive(Debug, Drop)]
-pub struct Listed {
+#[derive(Drop)]
+pub struct ListedItem {
     /// Its column in the result.
     pub column: Column,
     /// The place that it takes in the rows below.
@@ -45,7 +45,7 @@ pub struct Listed {
 }
 
 /// What the items of a select give.
-#[derive(Debug, Drop)]
+#[derive(Drop)]
 pub struct Listing {
     /// The columns of the result.
     pub columns: Columns,
