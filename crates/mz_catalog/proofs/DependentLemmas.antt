@@ -2,7 +2,8 @@
 use Rattle.std.proofs.Common.{◌≡◌, Bool, true, false, cond, List, [], ◌∷◌, None, Some, find, filter, refl, sym, subst}
 use Rattle.mz_plan.specs.declared.item.Item.{Item}
 use Rattle.mz_catalog.specs.declared.fault.CatalogFault.{CatalogFault}
-use Rattle.mz_catalog.specs.Dependents.{depends, is_index, dependents_on, Tells, IsHeldBack}
+use Rattle.mz_plan.specs.Items.{depends, is_index, dependents_on}
+use Rattle.mz_catalog.specs.Dependents.{Tells, IsHeldBack}
 
 -- where no item passes a test, none is kept by it
 pub filter-none : (test : Item → Bool) (items : List Item) → find test items ≡ None → filter test items ≡ []

@@ -10,7 +10,8 @@ use Rattle.std.specs.Option.{option_map, IfSome, IsSome}
 use Rattle.std.specs.Map.{values_of, lookup}
 use Rattle.mz_plan.specs.declared.item.Item.{Item}
 use Rattle.mz_catalog.specs.declared.fault.CatalogFault.TheVariants.{NameTaken, TooMany}
-use Rattle.mz_catalog.specs.CatalogState.{named, numbered, others, refusal, Ascend}
+use Rattle.mz_plan.specs.Items.{named, numbered, others, Ascend}
+use Rattle.mz_catalog.specs.CatalogState.{most_items, refusal}
 use Rattle.mz_catalog.specs.Keyed.{AreKeyed}
 
 -- the entry of a name has the item of that name
@@ -134,14 +135,14 @@ all_pairs-push R (item ∷ items) last pairs all =
 -- what is free where there is no refusal
 pub record IsFree (items : List Item) (name : List ℕ) : Type 0 where
   pub name_free : named name items ≡ None
-  pub place_free : length items < 1024
+  pub place_free : length items < most_items
 
 -- an item that isn't refused has a new name and a place
 pub free-from_refusal : (items : List Item) (name : List ℕ) → refusal items name ≡ None → IsFree items name
-free-from_refusal items name none = by (named name items) refl (nat_le 1024 (length items)) refl none
+free-from_refusal items name none = by (named name items) refl (nat_le most_items (length items)) refl none
   where
-    by : (o : Option Item) → named name items ≡ o → (b : Bool) → nat_le 1024 (length items) ≡ b
-        → cond (is_some o) (Some (NameTaken name)) (cond b (Some (TooMany 1024)) None) ≡ None → IsFree items name
+    by : (o : Option Item) → named name items ≡ o → (b : Bool) → nat_le most_items (length items) ≡ b
+        → cond (is_some o) (Some (NameTaken name)) (cond b (Some (TooMany most_items)) None) ≡ None → IsFree items name
     by (Some x) at b is none = cc
     by None at true is none = cc
     by None at false is none = record { name_free = at; place_free = grind arith }

@@ -7,7 +7,7 @@ use Rattle.std.specs.Option.{option_map, option_or, IfSome, IsSome}
 use Rattle.mz_plan.specs.declared.item.Item.{Item}
 use Rattle.mz_plan.specs.declared.item.ItemKind.{ItemKind}
 use Rattle.mz_plan.specs.declared.item.ItemKind.TheVariants.{Table, View, Index}
-use Rattle.mz_catalog.specs.CatalogState.{Ascend, is_on, numbered, oldest_index, others}
+use Rattle.mz_plan.specs.Items.{Ascend, is_on, numbered, oldest_index, others}
 use Rattle.mz_catalog.specs.Oldest.{KeepsOldest, index_place, is_at, kept_at, kind_place, same_place}
 use Rattle.mz_catalog.proofs.ItemLemmas.{ascend-head, ascend-tail, others-above}
 

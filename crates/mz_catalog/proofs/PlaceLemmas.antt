@@ -11,7 +11,7 @@ use Rattle.std.specs.Map.{values_of}
 use Rattle.std.specs.Ordering.{nat_cmp, ordering_index}
 use Rattle.std.specs.declared.cmp.Ordering.TheVariants.{Less, Equal, Greater}
 use Rattle.mz_plan.specs.declared.item.Item.{Item}
-use Rattle.mz_catalog.specs.CatalogState.{numbered, Ascend}
+use Rattle.mz_plan.specs.Items.{numbered, Ascend}
 use Rattle.mz_catalog.proofs.ItemLemmas.{numbered-at}
 
 -- the value at a place is the entry's

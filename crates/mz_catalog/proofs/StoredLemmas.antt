@@ -7,7 +7,8 @@ use Rattle.std.proofs.lemmas.List.Filters.{length-filter_both}
 use Rattle.std.specs.List.{All}
 use Rattle.std.specs.Map.{values_of}
 use Rattle.mz_plan.specs.declared.item.Item.{Item}
-use Rattle.mz_catalog.specs.CatalogState.{CatalogState, IsCatalog, empty, with_item, without, others, refusal}
+use Rattle.mz_plan.specs.Items.{others}
+use Rattle.mz_catalog.specs.CatalogState.{CatalogState, IsCatalog, empty, with_item, without, refusal}
 use Rattle.mz_catalog.specs.Keyed.{AreKeyed, state_of, IsStored}
 use Rattle.mz_catalog.proofs.ItemLemmas.{named-none, all_pairs-push, free-from_refusal}
 

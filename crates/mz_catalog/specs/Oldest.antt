@@ -4,7 +4,7 @@ use Rattle.std.specs.Map.{lookup}
 use Rattle.mz_plan.specs.declared.item.Item.{Item}
 use Rattle.mz_plan.specs.declared.item.ItemKind.{ItemKind}
 use Rattle.mz_plan.specs.declared.item.ItemKind.TheVariants.{Index}
-use Rattle.mz_catalog.specs.CatalogState.{oldest_index}
+use Rattle.mz_plan.specs.Items.{oldest_index}
 
 -- two pairs of an item and a cluster are one
 abbrev pub same_place : ℕ × ℕ → ℕ × ℕ → Bool

@@ -1,14 +1,16 @@
 //! The catalog of items.
-ghost use Rattle.std.specs.Prelude.{◌≡◌, ◌<◌, ◌^◌, [], None, Some, option_map, is_some, IfOk, OnOk, IfErr, OnErr, IsSome, IfSome};
-ghost use Rattle.mz_catalog.specs.CatalogState.{empty, named, numbered, oldest_index, with_item, without, refusal, IsCatalog, IsCause};
-ghost use Rattle.mz_catalog.specs.Dependents.{dependents, IsHeldBack};
+ghost use Rattle.std.specs.Prelude.{◌≡◌, ◌+◌, [], None, Some, option_map, is_some, IfOk, OnOk, IfErr, OnErr, IsSome, IfSome};
+ghost use Rattle.mz_plan.specs.Items.{named, numbered, oldest_index, dependents};
+ghost use Rattle.mz_catalog.specs.CatalogState.{empty, with_item, without, refusal, IsCatalog, IsCause};
+ghost use Rattle.mz_catalog.specs.Dependents.{IsHeldBack};
+ghost use Rattle.mz_catalog.specs.declared.fault.CatalogFault.TheVariants.{Memory};
 
 use crate::CatalogFault;
 use crate::entries::{copied, copied_items, id_of, is_there, place_of, put, take_out};
 use crate::oldest::{copied_oldest, index_place, kept_at, make_room, note, renew};
 use indexmap::IndexMap;
-use mz_bag::Name;
 use mz_plan::{CatalogItems, Item, Scope};
+use mz_value::Name;
 use std::alloc::{AllocError, Global};
 use std::marker::Model;
 
@@ -21,6 +23,17 @@ pub struct Catalog {
     oldest: IndexMap<(u64, u64), u64>,
     // The number that the next item gets.
     next: u64,
+}
+
+// The number after this one. All are used behind the last one.
+fn following(id: u64) -> Result<u64, CatalogFault>
+    ensures ok { IfOk result (λ next. next ≡ id + 1) }
+    ensures err { IfErr result (λ fault. fault ≡ Memory) }
+{
+    match id.checked_add(1) {
+        Some(next) => Ok(next),
+        None => Err(CatalogFault::Memory),
+    }
 }
 
 impl Model for Catalog {
@@ -49,9 +62,9 @@ impl Catalog {
         }
     }
 
-    /// Adds an item last, whatever number it had, and gives the number that it has now. O(1) expected.
+    /// Adds an item last, whatever number it had, and gives the number that it has now. O(1) expected. Where all
+    /// numbers are used, it answers that memory ran out.
     pub fn add(&mut self, mut item: Item) -> Result<u64, CatalogFault>
-        requires { self.old.next < 2 ^ 63 }
         ensures id { IfOk result (λ id. id ≡ self.old.next) }
         ensures ok { OnOk result (self.new ≡ with_item self.old item) }
         ensures free { OnOk result (refusal self.old.items item.name ≡ None) }
@@ -60,12 +73,13 @@ impl Catalog {
         ensures cause { IfErr result (λ fault. IsCause fault (refusal self.old.items item.name)) }
     {
         let id = self.next;
+        let next = following(id)?;
         item.id = id;
         let place = index_place(&item);
         make_room(&mut self.oldest)?;
         put(&mut self.items, item)?;
         note(&mut self.oldest, place, id);
-        self.next = id + 1;
+        self.next = next;
         Ok(id)
     }
 

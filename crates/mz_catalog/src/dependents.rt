@@ -1,11 +1,11 @@
 //! Which items depend on which.
 ghost use Rattle.std.specs.Prelude.{◌≡◌, bytes_eq, find, map};
 ghost use Rattle.std.specs.List.{list_any};
-ghost use Rattle.mz_catalog.specs.Dependents.{references, names, query_of, depends, is_index};
+ghost use Rattle.mz_plan.specs.Items.{references, names, query_of, depends, is_index};
 
-use mz_bag::Name;
 use mz_plan::{Item, ItemKind};
 use mz_statement::{Join, Select, Statement};
+use mz_value::Name;
 
 // Whether one of the joins reads the relation.
 fn join_names(joins: &[Join], name: &Name) -> bool

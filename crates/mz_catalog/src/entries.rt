@@ -1,20 +1,21 @@
 //! Items under their names, in order of creation.
 ghost use Rattle.std.specs.Prelude.{◌≡◌, ◌==◌, ◌&&◌, ◌∷◌, ◌++◌, ◌<◌, ◌⊎◌, [], None, is_some, remove, slice_get, find, option_map, bytes_eq, IfOk, OnOk, IfErr, OnErr, IsSome};
 ghost use Rattle.indexmap.specs.IndexMap.{get, values, index_map_len};
-ghost use Rattle.mz_catalog.specs.CatalogState.{is_on, named, numbered, oldest_index, others, refusal, Ascend, IsCause};
+ghost use Rattle.mz_plan.specs.Items.{is_on, named, numbered, oldest_index, others, Ascend, depends, dependents, dependents_on};
+ghost use Rattle.mz_catalog.specs.CatalogState.{refusal, IsCause};
 ghost use Rattle.mz_catalog.specs.declared.fault.CatalogFault.TheVariants.{NameTaken, Memory};
-ghost use Rattle.mz_catalog.specs.Dependents.{depends, dependents, dependents_on, IsHeldBack, Tells};
+ghost use Rattle.mz_catalog.specs.Dependents.{IsHeldBack, Tells};
 ghost use Rattle.mz_catalog.specs.Keyed.{AreKeyed};
 
 use crate::CatalogFault;
 use crate::dependents::{depends, is_index};
 use indexmap::IndexMap;
-use mz_bag::Name;
 use mz_plan::{Item, ItemKind};
+use mz_value::{Name, TryCopy};
 use std::alloc::{AllocError, Global};
 
 /// How many items there may be.
-const MOST_ITEMS: usize = 1024;
+pub const MOST_ITEMS: usize = 1024;
 
 /// The number of the item of this name. O(1) expected.
 #[tactic(auto, using(crate::proofs::ItemLemmas::lookup_named))]
@@ -111,7 +112,9 @@ pub fn check_new(items: &IndexMap<Name, Item>, name: &Name) -> Result<(), Catalo
         return Err(name_taken(*items.allocator(), name));
     }
     if items.len() >= MOST_ITEMS {
-        return Err(CatalogFault::TooMany { limit: 1024 });
+        return Err(CatalogFault::TooMany {
+            limit: MOST_ITEMS as u64,
+        });
     }
     Ok(())
 }

@@ -1,11 +1,11 @@
 //! Why an item is not added or not removed.
 
-use mz_bag::Name;
+use mz_value::Name;
 use std::alloc::{AllocError, AllocFailed};
 use thiserror::Error;
 
 /// Why an item was not added or not removed. The catalog is as before.
-#[derive(Debug, PartialEq, Eq, Drop, Error)]
+#[derive(Debug, Drop, Error)]
 pub enum CatalogFault {
     /// An item has this name already.
     #[error("the name {name} is taken")]

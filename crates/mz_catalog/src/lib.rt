@@ -9,8 +9,7 @@ mod dependents;
 mod entries;
 mod fault;
 mod oldest;
-#[cfg(test)]
-mod tests;
 
 pub use catalog::Catalog;
+pub use entries::MOST_ITEMS;
 pub use fault::CatalogFault;

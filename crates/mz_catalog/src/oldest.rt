@@ -2,13 +2,13 @@
 ghost use Rattle.std.specs.Prelude.{◌≡◌, ℕ, ◌<◌, None, Some, OnOk, IfOk, IfSome, IsSome, if◌then◌else◌};
 ghost use Rattle.std.specs.Option.{option_or};
 ghost use Rattle.indexmap.specs.IndexMap.{spare, values};
-ghost use Rattle.mz_catalog.specs.CatalogState.{oldest_index};
+ghost use Rattle.mz_plan.specs.Items.{oldest_index};
 ghost use Rattle.mz_catalog.specs.Oldest.{index_place, is_at, kept_at, same_place};
 
 use crate::entries::oldest_index;
 use indexmap::IndexMap;
-use mz_bag::Name;
 use mz_plan::{Item, ItemKind};
+use mz_value::Name;
 use std::alloc::AllocError;
 
 /// The item that an index is on, and its cluster; None for what is no index. Takes no memory.

@@ -1,5 +1,5 @@
 use Rattle.std.proofs.Common.{◌≡◌, drop}
-use Rattle.mz_catalog.specs.Dependents.{names}
+use Rattle.mz_plan.specs.Items.{names}
 use Rattle.mz_catalog.proofs.dependents.query_names.Given as goal
 
 -- the selects that are left decide

@@ -1,6 +1,6 @@
 use Rattle.std.proofs.Common.{◌≡◌, find}
 use Rattle.indexmap.specs.IndexMap.{values}
-use Rattle.mz_catalog.specs.Dependents.{depends}
+use Rattle.mz_plan.specs.Items.{depends}
 use Rattle.mz_catalog.proofs.entries.first_dependent.Given as goal
 
 -- the items that are left decide

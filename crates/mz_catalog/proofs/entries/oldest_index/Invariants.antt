@@ -1,6 +1,6 @@
 use Rattle.std.proofs.Common.{◌≡◌, ◌==◌, ◌&&◌, find}
 use Rattle.indexmap.specs.IndexMap.{values}
-use Rattle.mz_catalog.specs.CatalogState.{is_on}
+use Rattle.mz_plan.specs.Items.{is_on}
 use Rattle.mz_catalog.proofs.entries.oldest_index.Given as goal
 
 -- the items that are left decide

@@ -19,8 +19,9 @@ invariant_of-self-2 c =
     let last : Item = record c.args.item { id = c.self.inside.next } in
     record {
       stored =
-          subst (λ es. IsStored es (c.self.inside.next + 1)) (sym c.in_ok-put.ensures.ok)
-          (stored-push c.self.inside.items.entries c.self.inside.next c.args.item c.self.invariant.stored c.in_ok-put.ensures.free);
+          subst (IsStored c.put.new.items.entries) (sym c.in_ok-next.ensures.ok)
+          (subst (λ es. IsStored es (c.self.inside.next + 1)) (sym c.in_ok-put.ensures.ok)
+          (stored-push c.self.inside.items.entries c.self.inside.next c.args.item c.self.invariant.stored c.in_ok-put.ensures.free));
       indexes =
           subst (KeepsOldest c.note.new.oldest.entries)
           (sym (ap values_of c.in_ok-put.ensures.ok ∙ values-push c.self.inside.items.entries (c.args.item.name, last)))

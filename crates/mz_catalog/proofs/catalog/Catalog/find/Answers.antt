@@ -1,7 +1,8 @@
 use Rattle.std.proofs.Common.{subst, ℕ}
 use Rattle.std.specs.Option.{IfSome, IsSome}
 use Rattle.std.specs.Map.{values_of}
-use Rattle.mz_catalog.specs.CatalogState.{CatalogState, numbered}
+use Rattle.mz_plan.specs.Items.{numbered}
+use Rattle.mz_catalog.specs.CatalogState.{CatalogState}
 use Rattle.mz_catalog.proofs.ItemLemmas.{there-named}
 use Rattle.mz_catalog.proofs.catalog.Catalog.find.Goals as goal
 

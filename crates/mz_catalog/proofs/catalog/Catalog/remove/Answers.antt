@@ -1,7 +1,7 @@
 use Rattle.std.proofs.Common.{cond, sym, ap, subst, ◌∙◌}
 use Rattle.std.specs.Map.{values_of}
 use Rattle.std.specs.Option.{IfSome, IsSome}
-use Rattle.mz_catalog.specs.CatalogState.{numbered, oldest_index}
+use Rattle.mz_plan.specs.Items.{numbered, oldest_index}
 use Rattle.mz_catalog.specs.Keyed.{IsKept}
 use Rattle.mz_catalog.specs.Oldest.{is_at, kept_at}
 use Rattle.mz_catalog.proofs.OldestLemmas.{kept-place, oldest-others}
