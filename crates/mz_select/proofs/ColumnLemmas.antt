@@ -2,8 +2,8 @@
 use Rattle.std.proofs.Common.{◌≡◌, refl, ap, ◌∙◌, ℕ, suc, ◌+◌, Bool, true, false, List, [], ◌∷◌, ◌++◌, Option, None, Some, length, append_assoc, length-append, if◌then◌else◌, is_some, not}
 use Rattle.std.specs.List.{list_any}
 use Rattle.mz_statement.specs.declared.column.Column.{Column}
-use Rattle.mz_log.specs.declared.relation.Referred.{Referred}
-use Rattle.mz_log.specs.Columns.{SeenColumn, columns_from, columns_of, only_one}
+use Rattle.mz_resolution.specs.declared.relation.Referred.{Referred}
+use Rattle.mz_resolution.specs.Columns.{SeenColumn, columns_from, columns_of, only_one}
 
 -- the one that passes, where this one was found to pass before
 abbrev pub still_one : {A : Type 0} → Option A → (A → Bool) → List A → Option A

@@ -1,6 +1,6 @@
 -- Steps behind members that were found before.
 use Rattle.std.proofs.Common.{◌≡◌, refl, ap, List, [], ◌∷◌, ◌++◌, Ok, Err, append_assoc}
-use Rattle.mz_log.specs.Steps.{Step, ◌>>=◌}
+use Rattle.mz_resolution.specs.Steps.{Step, ◌>>=◌}
 
 -- what was found before, with what a step gives behind it
 abbrev pub with_front : {A : Type 0} → List A → Step (List A) → Step (List A)

@@ -1,8 +1,8 @@
 -- How what code gives is tied to the steps of the definition.
 use Rattle.std.specs.Prelude.{◌≡◌, Result, Ok, Err}
-use Rattle.mz_log.specs.Steps.{Step}
-use Rattle.mz_plan.specs.declared.fault.CallFault.{CallFault}
-use Rattle.mz_plan.specs.declared.fault.CallFault.TheVariants.{Refused, Memory}
+use Rattle.mz_resolution.specs.Steps.{Step}
+use Rattle.mz_refusal.specs.declared.fault.CallFault.{CallFault}
+use Rattle.mz_refusal.specs.declared.fault.CallFault.TheVariants.{Refused, Memory}
 
 -- a fault of the code is the refusal of the step, or want of memory
 abbrev pub Fails : {A : Type 0} → CallFault → Step A → Type 0

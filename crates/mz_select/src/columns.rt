@@ -1,19 +1,19 @@
 //! The columns that a select sees, and which of them a name means.
 ghost use Rattle.std.specs.Prelude.{◌≡◌, ◌++◌, length, map, IfOk, OnOk, bytes_eq, is_some, None, option_map, if◌then◌else◌};
-ghost use Rattle.mz_log.specs.Columns.{columns_from, columns_of, is_clear, is_of, may_mean, meant, only_one, view_of};
-ghost use Rattle.mz_log.specs.Resolution.{table_view};
-ghost use Rattle.mz_resolve.specs.Gives.{Gives};
+ghost use Rattle.mz_resolution.specs.Columns.{columns_from, columns_of, is_clear, is_of, may_mean, meant, only_one, sight_of};
+ghost use Rattle.mz_resolution.specs.Resolution.{table_sight};
+ghost use Rattle.mz_select.specs.Gives.{Gives};
 
 use crate::faults::unknown_column;
-use mz_bag::Name;
-use mz_log::Referred;
-use mz_plan::CallFault;
+use mz_refusal::CallFault;
+use mz_resolution::Referred;
 use mz_statement::{Column, ColumnName, ColumnType};
+use mz_value::Name;
 use std::alloc::{AllocError, Global};
 use std::marker::Model;
 
 /// A column that a select sees.
-#[derive(Debug, Drop)]
+#[derive(Drop)]
 pub struct SeenColumn<'a> {
     // Its place among all columns.
     place: u64,
@@ -28,7 +28,7 @@ pub struct SeenColumn<'a> {
 }
 
 impl<'a> Model for SeenColumn<'a> {
-    ghost use Rattle.mz_log.specs.Columns.{SeenColumn as Seen};
+    ghost use Rattle.mz_resolution.specs.Columns.{SeenColumn as Seen};
 
     ghost Value = { Seen };
 
@@ -87,19 +87,19 @@ impl<'a> SeenColumn<'a> {
 }
 
 /// What a select sees.
-#[derive(Debug, Drop)]
-pub struct View<'a> {
+#[derive(Drop)]
+pub struct Sight<'a> {
     // What each reference is called.
     called: Vec<&'a Name>,
     // The columns of all references, side by side.
     columns: Vec<SeenColumn<'a>>,
 }
 
-impl<'a> Model for View<'a> {
+impl<'a> Model for Sight<'a> {
     ghost use Rattle.std.specs.Prelude.{map};
-    ghost use Rattle.mz_log.specs.Columns.{View as Sight};
+    ghost use Rattle.mz_resolution.specs.Columns.{Sight as Seen};
 
-    ghost Value = { Sight };
+    ghost Value = { Seen };
 
     ghost view = { λ v. record {
       called = map (λ name. name.now) v.called.items;
@@ -218,12 +218,12 @@ fn names_of<'a>(alloc: Global, references: &'a [Referred]) -> Result<Vec<&'a Nam
     Ok(names)
 }
 
-impl<'a> View<'a> {
+impl<'a> Sight<'a> {
     /// What a select over these references sees. Memory and time follow their columns.
-    pub fn of_references(alloc: Global, references: &'a [Referred]) -> Result<View<'a>, AllocError>
-        ensures { IfOk result (λ view. view ≡ view_of references.now) }
+    pub fn of_references(alloc: Global, references: &'a [Referred]) -> Result<Sight<'a>, AllocError>
+        ensures { IfOk result (λ sight. sight ≡ sight_of references.now) }
     {
-        Ok(View {
+        Ok(Sight {
             called: names_of(alloc, references)?,
             columns: columns_of_all(alloc, references)?,
         })
@@ -234,14 +234,14 @@ impl<'a> View<'a> {
         alloc: Global,
         table: &'a Name,
         columns: &'a [Column],
-    ) -> Result<View<'a>, AllocError>
-        ensures { IfOk result (λ view. view ≡ table_view table.now columns.now) }
+    ) -> Result<Sight<'a>, AllocError>
+        ensures { IfOk result (λ sight. sight ≡ table_sight table.now columns.now) }
     {
         let mut seen = Vec::new(alloc);
         push_columns(&mut seen, 0, table, columns)?;
         let mut called = Vec::new(alloc);
         called.push(table)?;
-        Ok(View {
+        Ok(Sight {
             called,
             columns: seen,
         })
@@ -275,52 +275,5 @@ impl<'a> View<'a> {
             Some(seen) => Ok(seen),
             None => Err(CallFault::Refused(unknown_column(alloc, column)?)),
         }
-    }
-}
-
-#[cfg(test)]
-mod tests {
-    use super::*;
-    use mz_bag::is_name;
-    use mz_log::Relation;
-    use mz_plan::Plan;
-    use mz_statement::Columns;
-    use std::process::Abort;
-    use std::test::Fail;
-
-    fn name(rt: &impl Abort, alloc: Global, text: &str) -> Result<Name, AllocError> {
-        assert!(rt; is_name(text.as_bytes()), "{text}");
-        Name::new(alloc, text.as_bytes())
-    }
-
-    // A reference with one column, `a`.
-    fn referred(rt: &impl Abort, alloc: Global, called: &str) -> Result<Referred, AllocError> {
-        let name = name(rt, alloc, "a")?;
-        let kind = ColumnType::Int;
-        Ok(Referred {
-            called: self::name(rt, alloc, called)?,
-            relation: Relation {
-                columns: Columns::from_vec(vec![in alloc; Column { name, kind }]?),
-                plan: Plan::Table(1),
-                tables: 1,
-            },
-        })
-    }
-
-    fn column(rt: &impl Abort, alloc: Global, qualifier: &str) -> Result<ColumnName, AllocError> {
-        Ok(ColumnName {
-            qualifier: Some(name(rt, alloc, qualifier)?),
-            name: name(rt, alloc, "a")?,
-        })
-    }
-
-    #[test]
-    fn a_qualifier_tells_columns_apart(rt: HostRuntime) -> Result<(), Fail> {
-        let alloc = rt.alloc();
-        let references = vec![in alloc; referred(&rt, alloc, "r")?, referred(&rt, alloc, "s")?]?;
-        let view = View::of_references(alloc, &references)?;
-        let place = view.meant(alloc, &column(&rt, alloc, "s")?)?.place();
-        assert_eq!(rt; place, 1);
-        Ok(())
     }
 }

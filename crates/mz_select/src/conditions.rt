@@ -1,15 +1,17 @@
 //! What conditions and equalities of JOINs compare, by places in place of names.
 ghost use Rattle.std.specs.Prelude.{◌≡◌, IfOk, None};
-ghost use Rattle.mz_log.specs.Conditions.{are_sides, compared, condition, equalities, equality, join_by, may_compare, paired, same_type, tested, type_of, with_column, with_literal, with_side};
-ghost use Rattle.mz_log.specs.Steps.{each};
-ghost use Rattle.mz_resolve.specs.Gives.{Gives, Is};
-ghost use Rattle.mz_resolve.specs.Tests.{joined_all, joined_next, listed_tests};
+ghost use Rattle.mz_plan.specs.Types.{may_compare, same_type, type_of};
+ghost use Rattle.mz_resolution.specs.Conditions.{are_sides, compared, condition, equalities, equality, join_by, paired, tested, with_column, with_literal, with_side};
+ghost use Rattle.mz_resolution.specs.Steps.{each};
+ghost use Rattle.mz_select.specs.Gives.{Gives, Is};
+ghost use Rattle.mz_select.specs.Tests.{joined_all, joined_next, listed_tests};
 
-use crate::columns::{SeenColumn, View};
+use crate::columns::{SeenColumn, Sight};
 use crate::faults::{wrong_column, wrong_nothing};
-use mz_bag::Datum;
-use mz_plan::{CallFault, Cond, Operand, Pairs};
+use mz_plan::{Cond, Operand, Pairs};
+use mz_refusal::CallFault;
 use mz_statement::{ColumnName, ColumnPair, ColumnType, Condition, Join, Op, Side, Test};
+use mz_value::{Datum, TryCopy};
 use sqlite_items::Boxed;
 use std::alloc::{AllocError, Global};
 
@@ -80,16 +82,16 @@ fn with_literal<'a>(
 // A comparison with a column or a literal.
 fn with_side<'a>(
     alloc: Global,
-    view: &View<'a>,
+    sight: &Sight<'a>,
     column: &ColumnName,
     op: Op,
     left: &SeenColumn<'a>,
     right: &Side,
 ) -> Result<Cond, CallFault>
-    ensures { Is result (with_side view.now column.now op left.now right.now) }
+    ensures { Is result (with_side sight.now column.now op left.now right.now) }
 {
     match right {
-        Side::Column(other) => with_column(alloc, column, op, left, view.meant(alloc, other)?),
+        Side::Column(other) => with_column(alloc, column, op, left, sight.meant(alloc, other)?),
         Side::Literal(literal) => with_literal(alloc, column, op, left, literal),
     }
 }
@@ -97,15 +99,15 @@ fn with_side<'a>(
 // A comparison, its left column first.
 fn compared<'a>(
     alloc: Global,
-    view: &View<'a>,
+    sight: &Sight<'a>,
     column: &ColumnName,
     op: Op,
     right: &Side,
 ) -> Result<Cond, CallFault>
-    ensures { Is result (compared view.now column.now op right.now) }
+    ensures { Is result (compared sight.now column.now op right.now) }
 {
-    let left = view.meant(alloc, column)?;
-    with_side(alloc, view, column, op, left, right)
+    let left = sight.meant(alloc, column)?;
+    with_side(alloc, sight, column, op, left, right)
 }
 
 // Two conditions joined by AND, or else by OR.
@@ -145,15 +147,15 @@ fn found(alloc: Global, whole: Option<Cond>) -> Result<Cond, CallFault>
 #[cycle(tested)]
 fn listed<'a>(
     alloc: Global,
-    view: &View<'a>,
+    sight: &Sight<'a>,
     by_and: bool,
     tests: &[Test],
 ) -> Result<Cond, CallFault>
-    ensures { Is result (listed_tests view.now by_and None tests.now) }
+    ensures { Is result (listed_tests sight.now by_and None tests.now) }
 {
     let mut whole = None;
     'tests: for test in tests {
-        let next = tested(alloc, view, test)?;
+        let next = tested(alloc, sight, test)?;
         whole = Some(joined(alloc, by_and, whole, next)?);
     }
     found(alloc, whole)
@@ -162,30 +164,30 @@ fn listed<'a>(
 // The condition of a test.
 #[cycle(tested)]
 #[tactic(auto, using(crate::proofs::TestRules::tested_rules))]
-fn tested<'a>(alloc: Global, view: &View<'a>, test: &Test) -> Result<Cond, CallFault>
-    ensures { Is result (tested view.now test.now) }
+fn tested<'a>(alloc: Global, sight: &Sight<'a>, test: &Test) -> Result<Cond, CallFault>
+    ensures { Is result (tested sight.now test.now) }
 {
     match test {
-        Test::All(tests) => listed(alloc, view, true, tests.as_slice()),
-        Test::Any(tests) => listed(alloc, view, false, tests.as_slice()),
+        Test::All(tests) => listed(alloc, sight, true, tests.as_slice()),
+        Test::Any(tests) => listed(alloc, sight, false, tests.as_slice()),
         Test::Not(test) => {
-            let below = tested(alloc, view, test.get())?;
+            let below = tested(alloc, sight, test.get())?;
             Ok(Cond::Not(Boxed::new(alloc, below)?))
         }
-        Test::Compare(column, op, right) => compared(alloc, view, column, *op, right),
+        Test::Compare(column, op, right) => compared(alloc, sight, column, *op, right),
     }
 }
 
 /// The condition behind WHERE, where there is one. Time follows the condition and the columns that it sees.
 pub fn condition<'a>(
     alloc: Global,
-    view: &View<'a>,
+    sight: &Sight<'a>,
     test: &Option<Condition>,
 ) -> Result<Option<Cond>, CallFault>
-    ensures { Is result (condition view.now test.now) }
+    ensures { Is result (condition sight.now test.now) }
 {
     match test {
-        Some(condition) => Ok(Some(tested(alloc, view, condition.test())?)),
+        Some(condition) => Ok(Some(tested(alloc, sight, condition.test())?)),
         None => Ok(None),
     }
 }
@@ -219,14 +221,14 @@ fn paired<'a>(
 // An equality of the JOIN with this number, its left column first.
 fn equality<'a>(
     alloc: Global,
-    view: &View<'a>,
+    sight: &Sight<'a>,
     joined: u64,
     pair: &ColumnPair,
 ) -> Result<(u64, u64), CallFault>
-    ensures { Is result (equality view.now joined pair.now) }
+    ensures { Is result (equality sight.now joined pair.now) }
 {
-    let left = view.meant(alloc, &pair.left)?;
-    let right = view.meant(alloc, &pair.right)?;
+    let left = sight.meant(alloc, &pair.left)?;
+    let right = sight.meant(alloc, &pair.right)?;
     paired(alloc, joined, &pair.left, left, right)
 }
 
@@ -234,15 +236,15 @@ fn equality<'a>(
 #[tactic(auto, using(crate::proofs::Fronts::fronts))]
 fn pairs<'a>(
     alloc: Global,
-    view: &View<'a>,
+    sight: &Sight<'a>,
     joined: u64,
     pairs: &[ColumnPair],
 ) -> Result<Pairs, CallFault>
-    ensures { Is result (each (equality view.now joined) pairs.now) }
+    ensures { Is result (each (equality sight.now joined) pairs.now) }
 {
     let mut found = Vec::with_capacity(alloc, pairs.len())?;
     'pairs: for pair in pairs {
-        found.push(equality(alloc, view, joined, pair)?)?;
+        found.push(equality(alloc, sight, joined, pair)?)?;
     }
     Ok(Pairs::from_vec(found))
 }
@@ -252,70 +254,14 @@ fn pairs<'a>(
 #[tactic(auto, using(crate::proofs::Fronts::fronts))]
 pub fn equalities<'a>(
     alloc: Global,
-    view: &View<'a>,
+    sight: &Sight<'a>,
     joins: &[Join],
 ) -> Result<Vec<Pairs>, CallFault>
-    ensures { Gives (λ pairs. pairs.items) result (equalities view.now 1 joins.now) }
+    ensures { Gives (λ pairs. pairs.items) result (equalities sight.now 1 joins.now) }
 {
     let mut found = Vec::with_capacity(alloc, joins.len())?;
     'joins: for (before, join) in joins.iter().enumerate() {
-        found.push(pairs(alloc, view, before as u64 + 1, join.pairs.as_slice())?)?;
+        found.push(pairs(alloc, sight, before as u64 + 1, join.pairs.as_slice())?)?;
     }
     Ok(found)
-}
-
-#[cfg(test)]
-mod tests {
-    use super::*;
-    use mz_bag::{Name, is_name};
-    use mz_statement::Column;
-    use sqlite_items::Items;
-    use std::process::Abort;
-    use std::test::Fail;
-
-    fn name(rt: &impl Abort, alloc: Global, text: &str) -> Result<Name, AllocError> {
-        assert!(rt; is_name(text.as_bytes()), "{text}");
-        Name::new(alloc, text.as_bytes())
-    }
-
-    fn column(rt: &impl Abort, alloc: Global, text: &str) -> Result<Column, AllocError> {
-        let name = name(rt, alloc, text)?;
-        let kind = ColumnType::Int;
-        Ok(Column { name, kind })
-    }
-
-    fn compare(rt: &impl Abort, alloc: Global, text: &str) -> Result<Test, AllocError> {
-        let name = name(rt, alloc, text)?;
-        let column = ColumnName {
-            qualifier: None,
-            name,
-        };
-        Ok(Test::Compare(column, Op::Lt, Side::Literal(Datum::Int(7))))
-    }
-
-    // b < 7 AND NOT a < 7
-    fn both(rt: &impl Abort, alloc: Global) -> Result<Test, AllocError> {
-        let not = Test::Not(Boxed::new(alloc, compare(rt, alloc, "a")?)?);
-        let tests = vec![in alloc; compare(rt, alloc, "b")?, not]?;
-        Ok(Test::All(Items::from_vec(tests)))
-    }
-
-    #[test]
-    fn columns_of_a_condition_get_places(rt: HostRuntime) -> Result<(), Fail> {
-        let alloc = rt.alloc();
-        let table = name(&rt, alloc, "t")?;
-        let columns = vec![in alloc; column(&rt, alloc, "a")?, column(&rt, alloc, "b")?]?;
-        let view = View::of_table(alloc, &table, &columns)?;
-        let found = tested(alloc, &view, &both(&rt, alloc)?)?;
-        let text = format!(in alloc; "{found:?}")?;
-        assert!(rt;
-            text.starts_with("And(Boxed { inner: Compare(1, Lt, "),
-            "{text}"
-        );
-        assert!(rt;
-            text.contains("inner: Not(Boxed { inner: Compare(0, Lt, "),
-            "{text}"
-        );
-        Ok(())
-    }
 }

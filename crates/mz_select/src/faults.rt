@@ -1,14 +1,36 @@
 //! The refusals of resolution, with their texts.
-ghost use Rattle.std.specs.Prelude.{◌≡◌, IfOk, [], codes};
-ghost use Rattle.mz_log.specs.Columns.{column_text};
-ghost use Rattle.mz_plan.specs.declared.refusal.Refusal.TheVariants.{UnknownColumn, UnknownName, WrongType};
+ghost use Rattle.std.specs.Prelude.{◌≡◌, IfOk, [], codes, length, nat_le};
+ghost use Rattle.mz_resolution.specs.Columns.{column_text};
+ghost use Rattle.mz_resolution.specs.Queries.{most_columns};
+ghost use Rattle.mz_refusal.specs.declared.refusal.Limited.TheVariants.{Columns};
+ghost use Rattle.mz_refusal.specs.declared.refusal.Refusal.TheVariants.{TooMany, UnknownColumn, UnknownName, WrongType};
 
-use mz_bag::{Name, Text};
-use mz_plan::Refusal;
-use mz_statement::ColumnName;
+use mz_refusal::{Limited, Refusal};
+use mz_statement::{Column, ColumnName};
+use mz_value::{Name, Text};
 use std::alloc::{AllocError, Global};
 
-/// The name of a column as it is written.
+/// How many columns a table, a view or a result may have.
+pub const MOST_COLUMNS: u64 = 16;
+
+/// Whether there are no more columns than there may be. Takes no memory.
+pub fn are_few(columns: &[Column]) -> bool
+    ensures { result ≡ nat_le (length columns.now) most_columns }
+{
+    columns.len() as u64 <= MOST_COLUMNS
+}
+
+/// There are more columns than there may be. Takes no memory.
+pub fn too_many_columns() -> Refusal
+    ensures { result ≡ TooMany Columns most_columns }
+{
+    Refusal::TooMany {
+        what: Limited::Columns,
+        limit: MOST_COLUMNS,
+    }
+}
+
+// The name of a column as it is written.
 fn column_text(alloc: Global, column: &ColumnName) -> Result<Text, AllocError>
     ensures { IfOk result (λ text. text ≡ column_text column.now) }
 {

@@ -1,23 +1,24 @@
 //! What the items of a select give: its columns, and where they are in the rows below.
-ghost use Rattle.mz_bag.specs.Name.{is_name};
-ghost use Rattle.mz_log.specs.Columns.{name_or};
-ghost use Rattle.mz_log.specs.Listings.{aggregates_in, behind, column_as, expressed, has_aggregate, has_group, is_aggregate, items_from, key_at, keys_before, keys_of, listing, listing_of, own_column, plain, star, summed};
-ghost use Rattle.mz_plan.specs.declared.refusal.Refusal.TheVariants.{WrongType};
+ghost use Rattle.mz_value.specs.Name.{is_name};
+ghost use Rattle.mz_resolution.specs.Columns.{name_or};
+ghost use Rattle.mz_resolution.specs.Listings.{aggregates_in, behind, column_as, expressed, has_aggregate, has_group, is_aggregate, items_from, key_at, keys_before, keys_of, listing, listing_of, own_column, plain, star, summed};
+ghost use Rattle.mz_refusal.specs.declared.refusal.Refusal.TheVariants.{WrongType};
 ghost use Rattle.mz_plan.specs.declared.aggregate.Aggregate.TheVariants.{Count, Max, Min};
 ghost use Rattle.mz_statement.specs.declared.column.ColumnType.TheVariants.{Wide};
-ghost use Rattle.mz_resolve.specs.Gives.{Gives, Is};
+ghost use Rattle.mz_select.specs.Gives.{Gives, Is};
 ghost use Rattle.std.specs.List.{list_any, position};
 ghost use Rattle.std.specs.Prelude.{◌≡◌, ◌==◌, ◌+◌, ◌<◌, ◌≤◌, ◌^◌, ◌||◌, IfOk, Ok, codes, filter_map, length, map, true};
 
-use crate::columns::{SeenColumn, View};
+use crate::columns::{SeenColumn, Sight};
 use crate::conditions::same_type;
 use crate::faults::{wrong_column, wrong_part};
-use mz_bag::{Name, Text};
-use mz_log::{Listed, Listing};
-use mz_plan::{Aggregate, Aggregates, CallFault, Places, Refusal};
+use mz_plan::{Aggregate, Aggregates, Places};
+use mz_refusal::{CallFault, Refusal};
+use mz_resolution::{ListedItem, Listing};
 use mz_statement::{
     Column, ColumnName, ColumnType, Columns, Expression, Select, SelectItem, SelectItems,
 };
+use mz_value::{Name, Text};
 use std::alloc::{AllocError, Global};
 
 // Whether an expression is an aggregate.
@@ -124,11 +125,11 @@ fn behind(
     before: u64,
     column: Column,
     found: Aggregate,
-) -> Result<Listed, CallFault>
+) -> Result<ListedItem, CallFault>
     ensures { Is result (Ok (behind keys.now before column found)) }
 {
     match keys_before(keys).checked_add(before) {
-        Some(place) => Ok(Listed {
+        Some(place) => Ok(ListedItem {
             column,
             place,
             aggregate: Some(found),
@@ -143,11 +144,11 @@ fn key_at(
     name: &ColumnName,
     column: Column,
     place: Option<usize>,
-) -> Result<Listed, CallFault>
+) -> Result<ListedItem, CallFault>
     ensures { Is result (key_at name.now column place) }
 {
     match place {
-        Some(place) => Ok(Listed {
+        Some(place) => Ok(ListedItem {
             column,
             place: place as u64,
             aggregate: None,
@@ -170,12 +171,12 @@ fn plain<'a>(
     name: &ColumnName,
     column: Column,
     seen: &SeenColumn<'a>,
-) -> Result<Listed, CallFault>
+) -> Result<ListedItem, CallFault>
     ensures { Is result (plain keys.now name.now column seen.now) }
 {
     match keys {
         Some(keys) => key_at(alloc, name, column, position(keys.as_slice(), seen.place())),
-        None => Ok(Listed {
+        None => Ok(ListedItem {
             column,
             place: seen.place(),
             aggregate: None,
@@ -191,7 +192,7 @@ fn summed<'a>(
     alias: &Option<Name>,
     name: &ColumnName,
     seen: &SeenColumn<'a>,
-) -> Result<Listed, CallFault>
+) -> Result<ListedItem, CallFault>
     ensures { Is result (summed keys.now before alias.now name.now seen.now) }
 {
     if !same_type(seen.kind(), ColumnType::Int) {
@@ -207,7 +208,7 @@ fn counted(
     keys: &Option<Places>,
     before: u64,
     alias: &Option<Name>,
-) -> Result<Listed, CallFault>
+) -> Result<ListedItem, CallFault>
     ensures { Is result (Ok (behind keys.now before
         (column_as alias.now (codes "count") Wide) Count)) }
 {
@@ -222,7 +223,7 @@ fn least<'a>(
     before: u64,
     alias: &Option<Name>,
     seen: &SeenColumn<'a>,
-) -> Result<Listed, CallFault>
+) -> Result<ListedItem, CallFault>
     ensures { Is result (Ok (behind keys.now before
         (column_as alias.now (codes "min") seen.now.kind) (Min seen.now.place))) }
 {
@@ -237,7 +238,7 @@ fn greatest<'a>(
     before: u64,
     alias: &Option<Name>,
     seen: &SeenColumn<'a>,
-) -> Result<Listed, CallFault>
+) -> Result<ListedItem, CallFault>
     ensures { Is result (Ok (behind keys.now before
         (column_as alias.now (codes "max") seen.now.kind) (Max seen.now.place))) }
 {
@@ -252,7 +253,7 @@ fn column_listed<'a>(
     alias: &Option<Name>,
     name: &ColumnName,
     seen: &SeenColumn<'a>,
-) -> Result<Listed, CallFault>
+) -> Result<ListedItem, CallFault>
     ensures { Is result (plain keys.now name.now
         (column_as alias.now name.now.name seen.now.kind) seen.now) }
 {
@@ -263,24 +264,24 @@ fn column_listed<'a>(
 // An expression with the name behind AS, where there is one, and so many aggregates before it.
 fn expressed<'a>(
     alloc: Global,
-    view: &View<'a>,
+    sight: &Sight<'a>,
     keys: &Option<Places>,
     before: u64,
     alias: &Option<Name>,
     expression: &Expression,
-) -> Result<Listed, CallFault>
-    ensures { Is result (expressed view.now keys.now before alias.now expression.now) }
+) -> Result<ListedItem, CallFault>
+    ensures { Is result (expressed sight.now keys.now before alias.now expression.now) }
 {
     match expression {
         Expression::Column(name) => {
-            column_listed(alloc, keys, alias, name, view.meant(alloc, name)?)
+            column_listed(alloc, keys, alias, name, sight.meant(alloc, name)?)
         }
         Expression::Count => counted(alloc, keys, before, alias),
         Expression::Sum(name) => {
-            summed(alloc, keys, before, alias, name, view.meant(alloc, name)?)
+            summed(alloc, keys, before, alias, name, sight.meant(alloc, name)?)
         }
-        Expression::Min(name) => least(alloc, keys, before, alias, view.meant(alloc, name)?),
-        Expression::Max(name) => greatest(alloc, keys, before, alias, view.meant(alloc, name)?),
+        Expression::Min(name) => least(alloc, keys, before, alias, sight.meant(alloc, name)?),
+        Expression::Max(name) => greatest(alloc, keys, before, alias, sight.meant(alloc, name)?),
     }
 }
 
@@ -288,16 +289,16 @@ fn expressed<'a>(
 #[tactic(auto, using(crate::proofs::Fronts::fronts))]
 fn items_from<'a>(
     alloc: Global,
-    view: &View<'a>,
+    sight: &Sight<'a>,
     keys: &Option<Places>,
     items: &[SelectItem],
-) -> Result<Vec<Listed>, CallFault>
-    ensures { Gives (λ list. list.items) result (items_from view.now keys.now 0 items.now) }
+) -> Result<Vec<ListedItem>, CallFault>
+    ensures { Gives (λ list. list.items) result (items_from sight.now keys.now 0 items.now) }
 {
     let mut list = Vec::with_capacity(alloc, items.len())?;
     let mut before = 0;
     'items: for item in items {
-        let listed = expressed(alloc, view, keys, before, &item.alias, &item.expression)?;
+        let listed = expressed(alloc, sight, keys, before, &item.alias, &item.expression)?;
         before += aggregates_in(&listed);
         list.push(listed)?;
     }
@@ -305,7 +306,7 @@ fn items_from<'a>(
 }
 
 // 1 for an aggregate.
-fn aggregates_in(listed: &Listed) -> u64
+fn aggregates_in(listed: &ListedItem) -> u64
     ensures count { result ≡ aggregates_in listed.now.aggregate }
     ensures one { result ≤ 1 }
 {
@@ -330,13 +331,13 @@ fn own_columns<'a>(alloc: Global, columns: &[SeenColumn<'a>]) -> Result<Vec<Colu
 }
 
 // All columns under their own names, which is what `*` gives.
-fn star<'a>(alloc: Global, view: &View<'a>, keys: &Option<Places>) -> Result<Listing, CallFault>
-    ensures { Is result (star view.now keys.now) }
+fn star<'a>(alloc: Global, sight: &Sight<'a>, keys: &Option<Places>) -> Result<Listing, CallFault>
+    ensures { Is result (star sight.now keys.now) }
 {
     match keys {
         Some(_) => Err(CallFault::Refused(wrong_part(alloc, "*")?)),
         None => Ok(Listing {
-            columns: Columns::from_vec(own_columns(alloc, view.columns())?),
+            columns: Columns::from_vec(own_columns(alloc, sight.columns())?),
             places: None,
             aggregates: Aggregates::from_vec(Vec::new(alloc)),
         }),
@@ -344,7 +345,7 @@ fn star<'a>(alloc: Global, view: &View<'a>, keys: &Option<Places>) -> Result<Lis
 }
 
 // The places of items in the rows below.
-fn places_of(alloc: Global, items: &[Listed]) -> Result<Vec<u64>, AllocError>
+fn places_of(alloc: Global, items: &[ListedItem]) -> Result<Vec<u64>, AllocError>
     ensures { IfOk result (λ places. places.items ≡ map (λ item. item.place) items.now) }
 {
     let mut places = Vec::with_capacity(alloc, items.len())?;
@@ -355,7 +356,7 @@ fn places_of(alloc: Global, items: &[Listed]) -> Result<Vec<u64>, AllocError>
 }
 
 // The aggregates among items.
-fn aggregates_of(alloc: Global, items: &[Listed]) -> Result<Vec<Aggregate>, AllocError>
+fn aggregates_of(alloc: Global, items: &[ListedItem]) -> Result<Vec<Aggregate>, AllocError>
     ensures { IfOk result (λ found. found.items ≡ filter_map (λ item. item.aggregate) items.now) }
 {
     let mut found = Vec::new(alloc);
@@ -368,7 +369,7 @@ fn aggregates_of(alloc: Global, items: &[Listed]) -> Result<Vec<Aggregate>, Allo
 }
 
 // The columns of items.
-fn columns_of(alloc: Global, items: Vec<Listed>) -> Result<Vec<Column>, AllocError>
+fn columns_of(alloc: Global, items: Vec<ListedItem>) -> Result<Vec<Column>, AllocError>
     ensures { IfOk result (λ columns. columns.items ≡ map (λ item. item.column) items.items) }
 {
     let mut columns = Vec::with_capacity(alloc, items.len())?;
@@ -379,7 +380,7 @@ fn columns_of(alloc: Global, items: Vec<Listed>) -> Result<Vec<Column>, AllocErr
 }
 
 // What these items give.
-fn listing_of(alloc: Global, items: Vec<Listed>) -> Result<Listing, AllocError>
+fn listing_of(alloc: Global, items: Vec<ListedItem>) -> Result<Listing, AllocError>
     ensures { IfOk result (λ found. found ≡ listing_of items.items) }
 {
     let places = Places::from_vec(places_of(alloc, &items)?);
@@ -395,44 +396,17 @@ fn listing_of(alloc: Global, items: Vec<Listed>) -> Result<Listing, AllocError>
 /// select reaches, is want of memory. Time follows the items, each with the columns that it sees and the keys.
 pub fn listing<'a>(
     alloc: Global,
-    view: &View<'a>,
+    sight: &Sight<'a>,
     keys: &Option<Places>,
     items: &Option<SelectItems>,
 ) -> Result<Listing, CallFault>
-    ensures { Is result (listing view.now keys.now items.now) }
+    ensures { Is result (listing sight.now keys.now items.now) }
 {
     match items {
         Some(items) => {
-            let found = items_from(alloc, view, keys, items.as_slice())?;
+            let found = items_from(alloc, sight, keys, items.as_slice())?;
             Ok(listing_of(alloc, found)?)
         }
-        None => star(alloc, view, keys),
-    }
-}
-
-#[cfg(test)]
-mod tests {
-    use super::*;
-    use std::test::Fail;
-
-    // What `COUNT(*)` gives.
-    fn count_listed(alloc: Global) -> Result<Listing, CallFault> {
-        let mut items = Vec::new(alloc);
-        items.push(SelectItem {
-            expression: Expression::Count,
-            alias: None,
-        })?;
-        let view = View::of_references(alloc, &[])?;
-        let items = Some(SelectItems::from_vec(items));
-        listing(alloc, &view, &None, &items)
-    }
-
-    #[test]
-    fn lists_a_count(rt: HostRuntime) -> Result<(), Fail> {
-        let found = count_listed(rt.alloc())?;
-        let columns = found.columns.as_slice();
-        assert_eq!(rt; columns.len(), 1);
-        assert_eq!(rt; columns[0].name.as_str(), "count");
-        Ok(())
+        None => star(alloc, sight, keys),
     }
 }

@@ -1,9 +1,9 @@
 use Rattle.std.proofs.Common.{◌+◌, ◌++◌, ◌∷◌, ◌∙◌, sym, ap, List, arith, drop, length}
 use Rattle.std.proofs.lemmas.List.{at_drop_more}
-use Rattle.mz_log.specs.declared.relation.Referred.{Referred}
-use Rattle.mz_log.specs.Columns.{SeenColumn, columns_from}
-use Rattle.mz_resolve.proofs.ColumnLemmas.{reference_more}
-use Rattle.mz_resolve.proofs.columns.columns_of_all.Goals as goal
+use Rattle.mz_resolution.specs.declared.relation.Referred.{Referred}
+use Rattle.mz_resolution.specs.Columns.{SeenColumn, columns_from}
+use Rattle.mz_select.proofs.ColumnLemmas.{reference_more}
+use Rattle.mz_select.proofs.columns.columns_of_all.Goals as goal
 
 -- the columns of the next reference stand behind those so far
 pub references-preserved : goal.references-preserved

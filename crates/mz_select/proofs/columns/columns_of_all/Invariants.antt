@@ -1,6 +1,6 @@
 use Rattle.std.proofs.Common.{◌≡◌, ◌++◌, drop, length}
-use Rattle.mz_log.specs.Columns.{columns_from}
-use Rattle.mz_resolve.proofs.columns.columns_of_all.Given as goal
+use Rattle.mz_resolution.specs.Columns.{columns_from}
+use Rattle.mz_select.proofs.columns.columns_of_all.Given as goal
 
 -- the columns so far, with those of the references that are left, are all
 abbrev pub invariant-references : goal.invariant-references

@@ -1,7 +1,7 @@
 use Rattle.std.proofs.Common.{◌≡◌, bytes_eq, drop, is_some, map}
-use Rattle.mz_log.specs.Columns.{only_one}
-use Rattle.mz_resolve.proofs.ColumnLemmas.{is_still_one}
-use Rattle.mz_resolve.proofs.columns.is_called_once.Given as goal
+use Rattle.mz_resolution.specs.Columns.{only_one}
+use Rattle.mz_select.proofs.ColumnLemmas.{is_still_one}
+use Rattle.mz_select.proofs.columns.is_called_once.Given as goal
 
 -- what was found, and the names that are left, decide
 abbrev pub invariant-called : goal.invariant-called

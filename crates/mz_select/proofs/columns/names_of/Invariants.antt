@@ -1,5 +1,5 @@
 use Rattle.std.proofs.Common.{◌≡◌, ◌++◌, drop, map}
-use Rattle.mz_resolve.proofs.columns.names_of.Given as goal
+use Rattle.mz_select.proofs.columns.names_of.Given as goal
 
 -- the names so far, with those of the references that are left, are all
 abbrev pub invariant-references : goal.invariant-references

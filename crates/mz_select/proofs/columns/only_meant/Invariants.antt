@@ -1,7 +1,7 @@
 use Rattle.std.proofs.Common.{◌≡◌, drop, option_map}
-use Rattle.mz_log.specs.Columns.{may_mean, only_one}
-use Rattle.mz_resolve.proofs.ColumnLemmas.{still_one}
-use Rattle.mz_resolve.proofs.columns.only_meant.Given as goal
+use Rattle.mz_resolution.specs.Columns.{may_mean, only_one}
+use Rattle.mz_select.proofs.ColumnLemmas.{still_one}
+use Rattle.mz_select.proofs.columns.only_meant.Given as goal
 
 -- what was found, and the columns that are left, decide
 abbrev pub invariant-columns : goal.invariant-columns

@@ -1,6 +1,6 @@
 use Rattle.std.proofs.Common.{◌≡◌, ◌+◌, ◌++◌, drop, length}
-use Rattle.mz_log.specs.Columns.{columns_of}
-use Rattle.mz_resolve.proofs.columns.push_columns.Given as goal
+use Rattle.mz_resolution.specs.Columns.{columns_of}
+use Rattle.mz_select.proofs.columns.push_columns.Given as goal
 
 -- the columns so far, with those that are left, are all
 abbrev pub invariant-columns : goal.invariant-columns

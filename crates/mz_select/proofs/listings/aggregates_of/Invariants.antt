@@ -1,6 +1,6 @@
 use Rattle.std.proofs.Common.{◌≡◌, ◌++◌, drop}
 use Rattle.std.specs.Prelude.{filter_map}
-use Rattle.mz_resolve.proofs.listings.aggregates_of.Given as goal
+use Rattle.mz_select.proofs.listings.aggregates_of.Given as goal
 
 -- the aggregates so far, with those that are left
 abbrev pub invariant-items : goal.invariant-items

@@ -1,5 +1,5 @@
 use Rattle.std.proofs.Common.{◌≡◌, ◌++◌, map}
-use Rattle.mz_resolve.proofs.listings.columns_of.Given as goal
+use Rattle.mz_select.proofs.listings.columns_of.Given as goal
 
 -- the columns so far, with those that are left
 abbrev pub invariant-items : goal.invariant-items

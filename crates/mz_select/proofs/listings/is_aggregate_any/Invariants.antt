@@ -1,7 +1,7 @@
 use Rattle.std.proofs.Common.{◌≡◌, drop}
 use Rattle.std.specs.List.{list_any}
-use Rattle.mz_log.specs.Listings.{is_aggregate}
-use Rattle.mz_resolve.proofs.listings.is_aggregate_any.Given as goal
+use Rattle.mz_resolution.specs.Listings.{is_aggregate}
+use Rattle.mz_select.proofs.listings.is_aggregate_any.Given as goal
 
 -- the items that are left decide
 abbrev pub invariant-items : goal.invariant-items

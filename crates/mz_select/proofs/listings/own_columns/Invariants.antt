@@ -1,6 +1,6 @@
 use Rattle.std.proofs.Common.{◌≡◌, ◌++◌, map, drop}
-use Rattle.mz_log.specs.Listings.{own_column}
-use Rattle.mz_resolve.proofs.listings.own_columns.Given as goal
+use Rattle.mz_resolution.specs.Listings.{own_column}
+use Rattle.mz_select.proofs.listings.own_columns.Given as goal
 
 -- the columns so far, with those that are left
 abbrev pub invariant-columns : goal.invariant-columns

@@ -1,5 +1,5 @@
 use Rattle.std.proofs.Common.{◌≡◌, ◌++◌, map, drop}
-use Rattle.mz_resolve.proofs.listings.places_of.Given as goal
+use Rattle.mz_select.proofs.listings.places_of.Given as goal
 
 -- the places so far, with those that are left
 abbrev pub invariant-items : goal.invariant-items

@@ -1,4 +1,4 @@
-use Rattle.mz_resolve.proofs.listings.plain.Goals as goal
+use Rattle.mz_select.proofs.listings.plain.Goals as goal
 
 -- the place is looked for among the keys
 pub returns-in-Some : goal.returns-in-Some
