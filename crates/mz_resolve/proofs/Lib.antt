@@ -1,6 +1,3 @@
-pub mod ColumnLemmas
-pub mod Fronts
 pub mod PartsOfSelect
-pub mod TestRules
 pub mod NameLemmas
 pub mod RelationLemmas

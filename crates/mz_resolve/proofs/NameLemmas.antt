@@ -11,29 +11,16 @@ use Rattle.std.proofs.lemmas.Slice.Eq.{bytes_eq-Decides}
 use Rattle.mz_plan.specs.declared.item.Item.{Item}
 use Rattle.mz_plan.specs.declared.item.ItemKind.{ItemKind}
 use Rattle.mz_plan.specs.declared.item.ItemKind.TheVariants.{Table, View, Index}
-use Rattle.mz_plan.specs.declared.refusal.Refusal.TheVariants.{UnknownName}
+use Rattle.mz_refusal.specs.declared.refusal.Refusal.TheVariants.{UnknownName}
 use Rattle.mz_plan.specs.declared.scope.Scope.{Scope}
-use Rattle.mz_catalog.specs.CatalogState.{CatalogState, IsCatalog, Ascend, numbered}
-use Rattle.mz_catalog.specs.CatalogState as catalogs
+use Rattle.mz_plan.specs.Items.{Ascend, numbered}
+use Rattle.mz_plan.specs.Items as catalogs
+use Rattle.mz_catalog.specs.CatalogState.{CatalogState, IsCatalog}
 use Rattle.mz_catalog.proofs.ItemLemmas.{ascend-head, ascend-tail, id-numbered, numbered-named}
-use Rattle.mz_log.specs.declared.relation.NamedRelation.{NamedRelation}
-use Rattle.mz_log.specs.Resolution.{is_on, item_relation, named, oldest_index, without_number}
-use Rattle.mz_log.specs.Steps.{Step}
+use Rattle.mz_resolution.specs.declared.relation.NamedRelation.{NamedRelation}
+use Rattle.mz_resolution.specs.Resolution.{item_relation, named, without_number}
+use Rattle.mz_resolution.specs.Steps.{Step}
 use Rattle.mz_resolve.specs.InCatalog.{items_below, names_below, scope_in}
-
--- ---- indexes
-
--- both words for an index on an item say the same
-same_on : (relation : ℕ) (kind : ItemKind) → catalogs.is_on relation kind ≡ is_on relation kind
-same_on relation (Table columns) = refl
-same_on relation (View columns query) = refl
-same_on relation (Index on plan) = refl
-
--- and so do those for the oldest one
-pub oldest_in : (items : List Item) (cluster relation : ℕ)
-    → catalogs.oldest_index items cluster relation ≡ oldest_index (record { items = items; cluster = cluster }) relation
-oldest_in items cluster relation =
-    λ i. option_map (λ item. item.id) (find (λ item. item.cluster == cluster && same_on relation item.kind i) items)
 
 -- ---- items, the newest first
 

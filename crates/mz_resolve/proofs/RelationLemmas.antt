@@ -1,16 +1,16 @@
 -- A step for each member, as a loop takes them; and selects and queries, as their references and selects are taken.
 use Rattle.std.proofs.Common.{◌≡◌, List, [], ◌∷◌, ◌++◌, Result, Ok, Err, refl, sym, ap, subst, ◌∙◌}
 use Rattle.std.proofs.lemmas.List.{append-nil, append_assoc}
-use Rattle.mz_plan.specs.declared.fault.CallFault.{CallFault}
-use Rattle.mz_plan.specs.declared.fault.CallFault.TheVariants.{Memory, Refused}
+use Rattle.mz_refusal.specs.declared.fault.CallFault.{CallFault}
+use Rattle.mz_refusal.specs.declared.fault.CallFault.TheVariants.{Memory, Refused}
 use Rattle.mz_statement.specs.declared.query.Select.{Select}
 use Rattle.mz_statement.specs.declared.reference.Join.{Join}
-use Rattle.mz_log.specs.declared.relation.Referred.{Referred}
-use Rattle.mz_log.specs.declared.relation.Relation.{Relation}
-use Rattle.mz_log.specs.Columns.{view_of}
-use Rattle.mz_log.specs.Queries.{Names, light, queried, referred, select_over, selected, united}
-use Rattle.mz_log.specs.Steps.{Step, ◌>>=◌, each}
-use Rattle.mz_resolve.specs.Gives.{Fails, Is}
+use Rattle.mz_resolution.specs.declared.relation.Referred.{Referred}
+use Rattle.mz_resolution.specs.declared.relation.Relation.{Relation}
+use Rattle.mz_resolution.specs.Columns.{sight_of}
+use Rattle.mz_resolution.specs.Queries.{Names, small, queried, referred, select_over, selected, united}
+use Rattle.mz_resolution.specs.Steps.{Step, ◌>>=◌, each}
+use Rattle.mz_select.specs.Gives.{Fails, Is}
 
 -- what the members so far gave, with what those that are left give, is what all give
 abbrev pub SoFar : {A B : Type 0} → (A → Step B) → List B → List A → List A → Type 0
@@ -68,10 +68,10 @@ selected_fails names select joins first (Refused refusal) is same fails =
 pub selected_is : (names : Names) (select : Select) (joins : List Join) (first : Referred) (others : List Referred)
     → (result : Result Relation CallFault)
     → referred names select.first ≡ Ok first → joins ≡ select.joins → joined names joins ≡ Ok others
-    → Is result (select_over (view_of (first ∷ others)) first others select) → Is result (selected names select)
+    → Is result (select_over (sight_of (first ∷ others)) first others select) → Is result (selected names select)
 selected_is names select joins first others result is same gives over =
     let all : joined names select.joins ≡ Ok others = ap (joined names) (sym same) ∙ gives in
-    let whole : selected names select ≡ select_over (view_of (first ∷ others)) first others select = rw (is, all) refl in
+    let whole : selected names select ≡ select_over (sight_of (first ∷ others)) first others select = rw (is, all) refl in
     subst (Is result) (sym whole) over
 
 -- ---- queries
@@ -93,7 +93,7 @@ queried_fails names selects select rest first (Refused refusal) parts is fails =
 pub queried_is : (names : Names) (selects : List Select) (select : Select) (rest : List Select) (first : Relation) (others : List Relation)
     → (result : Result Relation CallFault) → selects ≡ select ∷ rest → selected names select ≡ Ok first
     → each (selected names) rest ≡ Ok others
-    → Is result (united first others >>= light) → Is result (queried names selects)
+    → Is result (united first others >>= small) → Is result (queried names selects)
 queried_is names selects select rest first others result parts is gives whole =
-    let all : queried names (select ∷ rest) ≡ (united first others >>= light) = rw (is, gives) refl in
+    let all : queried names (select ∷ rest) ≡ (united first others >>= small) = rw (is, gives) refl in
     subst (Is result) (sym (ap (queried names) parts ∙ all)) whole

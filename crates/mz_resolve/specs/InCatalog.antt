@@ -3,8 +3,8 @@ use Rattle.std.specs.Prelude.{ℕ, List, filter, nat_lt, reverse}
 use Rattle.mz_plan.specs.declared.item.Item.{Item}
 use Rattle.mz_plan.specs.declared.scope.Scope.{Scope}
 use Rattle.mz_catalog.specs.CatalogState.{CatalogState}
-use Rattle.mz_log.specs.Queries.{Names}
-use Rattle.mz_log.specs.Resolution.{named, without_number}
+use Rattle.mz_resolution.specs.Queries.{Names}
+use Rattle.mz_resolution.specs.Resolution.{named, without_number}
 
 -- the scope of a catalog in a cluster
 abbrev pub scope_in : CatalogState → ℕ → Scope

@@ -1,4 +1,2 @@
-pub mod Gives
 pub mod InCatalog
 pub mod Parts
-pub mod Tests

@@ -3,14 +3,14 @@ use Rattle.std.specs.Prelude.{ℕ, ◌+◌, List, Option, Ok, Err, codes, if◌t
 use Rattle.mz_statement.specs.declared.query.Select.{Select}
 use Rattle.mz_plan.specs.declared.condition.Cond.{Cond}
 use Rattle.mz_plan.specs.declared.plan.Plan.TheVariants.{Union}
-use Rattle.mz_plan.specs.declared.refusal.Refusal.TheVariants.{WrongType}
-use Rattle.mz_log.specs.declared.relation.Listing.{Listing}
-use Rattle.mz_log.specs.declared.relation.Relation.{Relation}
-use Rattle.mz_log.specs.Columns.{View}
-use Rattle.mz_log.specs.Conditions.{condition, equalities}
-use Rattle.mz_log.specs.Listings.{keys_of, listing}
-use Rattle.mz_log.specs.Queries.{light, place_meant, same_types, united}
-use Rattle.mz_log.specs.Steps.{Step, ◌>>=◌, each}
+use Rattle.mz_refusal.specs.declared.refusal.Refusal.TheVariants.{WrongType}
+use Rattle.mz_resolution.specs.declared.relation.Listing.{Listing}
+use Rattle.mz_resolution.specs.declared.relation.Relation.{Relation}
+use Rattle.mz_resolution.specs.Columns.{Sight}
+use Rattle.mz_resolution.specs.Conditions.{condition, equalities}
+use Rattle.mz_resolution.specs.Listings.{keys_of, listing}
+use Rattle.mz_resolution.specs.Queries.{small, place_meant, same_types, united}
+use Rattle.mz_resolution.specs.Steps.{Step, ◌>>=◌, each}
 use Rattle.mz_resolve.specs.declared.queries.SelectParts.{SelectParts}
 
 -- the pairs of places of each JOIN, the condition, the keys and the items of a select
@@ -25,12 +25,12 @@ abbrev pub parts_in : SelectParts → Parts
 parts_in parts = record { pairs = parts.pairs.items; cond = parts.cond; keys = parts.keys; found = parts.found }
 
 -- the parts of a select in order
-abbrev pub parts_of : View → Select → Step Parts
-parts_of view select = do
-  pairs ← equalities view 1 select.joins
-  cond ← condition view select.test
-  places ← each (place_meant view) select.group
-  found ← listing view (keys_of select places) select.items
+abbrev pub parts_of : Sight → Select → Step Parts
+parts_of sight select = do
+  pairs ← equalities sight 1 select.joins
+  cond ← condition sight select.test
+  places ← each (place_meant sight) select.group
+  found ← listing sight (keys_of select places) select.items
   Ok (record { pairs = pairs; cond = cond; keys = keys_of select places; found = found })
 
 -- the rows of two relations, of which the first gives the names of the columns
@@ -46,4 +46,4 @@ joined_by_union whole next =
 abbrev pub union_of : Relation → List Relation → Step Relation
 union_of first others = do
   whole ← united first others
-  light whole
+  small whole

@@ -1,20 +1,19 @@
 //! Commands that need no relation: DROP, INSERT and DELETE.
 ghost use Rattle.std.specs.Prelude.{◌≡◌, Ok, Err, length, option_map, if◌then◌else◌};
-ghost use Rattle.mz_catalog.specs.CatalogState.{named};
-ghost use Rattle.mz_log.specs.Resolution.{dropped, first_misfit, is_index, is_table, is_view, item_of, misfit, misplaced, resolution, table_columns};
-ghost use Rattle.mz_plan.specs.declared.refusal.Refusal.TheVariants.{WrongType};
+ghost use Rattle.mz_plan.specs.Items.{named, is_index, is_table, is_view};
+ghost use Rattle.mz_resolution.specs.Resolution.{dropped, first_misfit, item_of, misfit, misplaced, resolution, table_columns};
+ghost use Rattle.mz_refusal.specs.declared.refusal.Refusal.TheVariants.{WrongType};
 ghost use Rattle.mz_plan.specs.declared.resolved.Resolved.TheVariants as resolved;
 ghost use Rattle.mz_statement.specs.declared.statement.Statement.TheVariants as statement;
-ghost use Rattle.mz_resolve.specs.Gives.{Gives, Is};
+ghost use Rattle.mz_select.specs.Gives.{Gives, Is};
 ghost use Rattle.mz_resolve.specs.InCatalog.{scope_in};
 
-use crate::columns::View;
-use crate::conditions::{condition, same_type, type_of};
-use crate::faults::{unknown_name, wrong_name};
-use mz_bag::{Datum, Name, Row, Rows};
 use mz_catalog::Catalog;
-use mz_plan::{CallFault, Item, ItemKind, Resolved};
+use mz_plan::{Item, ItemKind, Resolved};
+use mz_refusal::CallFault;
+use mz_select::{Sight, condition, same_type, type_of, unknown_name, wrong_name};
 use mz_statement::{Column, Columns, Condition};
+use mz_value::{Datum, Name, Row, Rows};
 use std::alloc::Global;
 
 // The item of a name.
@@ -170,7 +169,7 @@ pub fn delete(
 {
     let item = item_in(alloc, catalog, name)?;
     let columns = table_columns(alloc, name, &item.kind)?;
-    let view = View::of_table(alloc, name, columns.as_slice())?;
-    let cond = condition(alloc, &view, test)?;
+    let sight = Sight::of_table(alloc, name, columns.as_slice())?;
+    let cond = condition(alloc, &sight, test)?;
     Ok(Resolved::Delete(item.id, cond))
 }

@@ -1,10 +1,10 @@
 //! The plan of a select, operator by operator. No plan is copied.
-ghost use Rattle.mz_log.specs.Queries.{distinct_plan, filtered_plan, grouped_plan, joined_plan, projected_plan};
+ghost use Rattle.mz_resolution.specs.Queries.{distinct_plan, filtered_plan, grouped_plan, joined_plan, projected_plan};
 ghost use Rattle.mz_plan.specs.declared.plan.Plan.TheVariants.{Join, Union};
 ghost use Rattle.std.specs.Prelude.{◌≡◌, IfOk};
 
-use mz_log::Referred;
 use mz_plan::{Aggregates, Cond, Pairs, Places, Plan};
+use mz_resolution::Referred;
 use sqlite_items::Boxed;
 use std::alloc::{AllocError, Global};
 

@@ -1,23 +1,24 @@
 //! The relation of a query, once what its names stand for is known.
-ghost use Rattle.mz_log.specs.Columns.{view_of};
-ghost use Rattle.mz_log.specs.Queries.{distinct_plan, filtered_plan, grouped_plan, joined_plan, light, narrow, place_meant, projected_plan, same_types, select_of, select_over, tables_of, united};
-ghost use Rattle.mz_log.specs.Steps.{each};
-ghost use Rattle.mz_resolve.specs.Gives.{Gives, Is};
+ghost use Rattle.mz_resolution.specs.Columns.{sight_of};
+ghost use Rattle.mz_resolution.specs.Queries.{distinct_plan, filtered_plan, grouped_plan, joined_plan, small, narrow, place_meant, projected_plan, same_types, select_of, select_over, tables_of, united};
+ghost use Rattle.mz_resolution.specs.Steps.{each};
+ghost use Rattle.mz_select.specs.Gives.{Gives, Is};
 ghost use Rattle.mz_resolve.specs.Parts.{joined_by_union, parts_in, parts_of, together, union_of};
 ghost use Rattle.std.specs.Prelude.{◌≡◌, ◌+◌, ◌<◌, ◌∷◌, IfOk, Ok, length};
 
-use crate::columns::View;
-use crate::conditions::{condition, equalities, same_type};
-use crate::faults::wrong_part;
-use crate::listings::{keys_of, listing};
 use crate::plans::{plan_of, rows_below, rows_listed, union};
-use mz_log::{Listing, Referred, Relation};
-use mz_plan::{Aggregates, CallFault, Cond, Limited, Pairs, Places, Plan, Refusal};
+use mz_plan::{Aggregates, Cond, MOST_TABLES, Pairs, Places, Plan};
+use mz_refusal::{CallFault, Refusal};
+use mz_resolution::{Listing, Referred, Relation};
+use mz_select::{
+    Sight, are_few, condition, equalities, keys_of, listing, same_type, too_many_columns,
+    wrong_part,
+};
 use mz_statement::{Column, ColumnName, Select};
 use std::alloc::{AllocError, Global};
 
 // What is found of a select before its plan is made.
-#[derive(Debug, Drop)]
+#[derive(Drop)]
 struct SelectParts {
     // The pairs of places of each JOIN.
     pairs: Vec<Pairs>,
@@ -51,38 +52,38 @@ fn tables_of(references: &[Referred]) -> Result<u64, CallFault>
 }
 
 // The place of the column that a name means.
-fn place_meant<'a>(alloc: Global, view: &View<'a>, column: &ColumnName) -> Result<u64, CallFault>
-    ensures { Is result (place_meant view.now column.now) }
+fn place_meant<'a>(alloc: Global, sight: &Sight<'a>, column: &ColumnName) -> Result<u64, CallFault>
+    ensures { Is result (place_meant sight.now column.now) }
 {
-    Ok(view.meant(alloc, column)?.place())
+    Ok(sight.meant(alloc, column)?.place())
 }
 
 // The places of the columns that names mean.
-#[tactic(auto, using(crate::proofs::Fronts::fronts))]
+#[tactic(auto, using(mz_select::proofs::Fronts::fronts))]
 fn places_meant<'a>(
     alloc: Global,
-    view: &View<'a>,
+    sight: &Sight<'a>,
     columns: &[ColumnName],
 ) -> Result<Vec<u64>, CallFault>
-    ensures { Gives (λ places. places.items) result (each (place_meant view.now) columns.now) }
+    ensures { Gives (λ places. places.items) result (each (place_meant sight.now) columns.now) }
 {
     let mut places = Vec::with_capacity(alloc, columns.len())?;
     'columns: for column in columns {
-        let place = place_meant(alloc, view, column)?;
+        let place = place_meant(alloc, sight, column)?;
         places.push(place)?;
     }
     Ok(places)
 }
 
 // The parts of a select in order.
-fn parts_of<'a>(alloc: Global, view: &View<'a>, select: &Select) -> Result<SelectParts, CallFault>
-    ensures { Gives parts_in result (parts_of view.now select.now) }
+fn parts_of<'a>(alloc: Global, sight: &Sight<'a>, select: &Select) -> Result<SelectParts, CallFault>
+    ensures { Gives parts_in result (parts_of sight.now select.now) }
 {
-    let pairs = equalities(alloc, view, select.joins.as_slice())?;
-    let cond = condition(alloc, view, &select.test)?;
-    let places = places_meant(alloc, view, select.group.as_slice())?;
+    let pairs = equalities(alloc, sight, select.joins.as_slice())?;
+    let cond = condition(alloc, sight, &select.test)?;
+    let places = places_meant(alloc, sight, select.group.as_slice())?;
     let keys = keys_of(select, places);
-    let found = listing(alloc, view, &keys, &select.items)?;
+    let found = listing(alloc, sight, &keys, &select.items)?;
     Ok(SelectParts {
         pairs,
         cond,
@@ -97,10 +98,10 @@ fn parts_over(
     references: &[Referred],
     select: &Select,
 ) -> Result<SelectParts, CallFault>
-    ensures { Gives parts_in result (parts_of (view_of references.now) select.now) }
+    ensures { Gives parts_in result (parts_of (sight_of references.now) select.now) }
 {
-    let view = View::of_references(alloc, references)?;
-    parts_of(alloc, &view, select)
+    let sight = Sight::of_references(alloc, references)?;
+    parts_of(alloc, &sight, select)
 }
 
 // A reference in front of others.
@@ -122,17 +123,14 @@ fn first_apart(references: Vec<Referred>) -> (Referred, Vec<Referred>)
     (first, others)
 }
 
-// A result has at most 16 columns.
+// A result has no more columns than it may have.
 fn narrow(relation: Relation) -> Result<Relation, CallFault>
     ensures { Is result (narrow relation) }
 {
-    if relation.columns.as_slice().len() <= 16 {
+    if are_few(relation.columns.as_slice()) {
         return Ok(relation);
     }
-    Err(CallFault::Refused(Refusal::TooMany {
-        what: Limited::Columns,
-        limit: 16,
-    }))
+    Err(CallFault::Refused(too_many_columns()))
 }
 
 // Whether two lists of columns have the same types.
@@ -148,11 +146,11 @@ fn same_types(ones: &[Column], others: &[Column]) -> bool
     }
 }
 
-// A query names at most four tables.
-fn light(relation: Relation) -> Result<Relation, CallFault>
-    ensures { Is result (light relation) }
+// A query names no more tables than it may.
+fn small(relation: Relation) -> Result<Relation, CallFault>
+    ensures { Is result (small relation) }
 {
-    if relation.tables <= 4 {
+    if relation.tables <= MOST_TABLES {
         return Ok(relation);
     }
     Err(CallFault::Refused(Refusal::TooManyLeaves {
@@ -221,7 +219,7 @@ pub fn select_over(
     select: &Select,
 ) -> Result<Relation, CallFault>
     ensures { Is result
-        (select_over (view_of (first ∷ others.items)) first others.items select.now) }
+        (select_over (sight_of (first ∷ others.items)) first others.items select.now) }
 {
     let references = in_front(first, others)?;
     let parts = parts_over(alloc, &references, select)?;
@@ -268,69 +266,5 @@ fn all_joined(alloc: Global, first: Relation, others: Vec<Relation>) -> Result<R
 pub fn united(alloc: Global, first: Relation, others: Vec<Relation>) -> Result<Relation, CallFault>
     ensures { Is result (union_of first others.items) }
 {
-    light(all_joined(alloc, first, others)?)
-}
-
-#[cfg(test)]
-mod tests {
-    use super::*;
-    use mz_bag::Name;
-    use mz_statement::{ColumnNames, ColumnType, Columns, Joins, Reference};
-    use std::test::Fail;
-
-    // A name.
-    fn name(alloc: Global) -> Result<Name, AllocError> {
-        Name::new(alloc, b"a".as_slice())
-    }
-
-    // A table of one column.
-    fn table(alloc: Global, item: u64) -> Result<Referred, AllocError> {
-        let mut columns = Vec::new(alloc);
-        columns.push(Column {
-            name: name(alloc)?,
-            kind: ColumnType::Int,
-        })?;
-        Ok(Referred {
-            called: name(alloc)?,
-            relation: Relation {
-                columns: Columns::from_vec(columns),
-                plan: Plan::Table(item),
-                tables: 1,
-            },
-        })
-    }
-
-    // All rows of one table, each once.
-    fn select(alloc: Global) -> Result<Select, AllocError> {
-        Ok(Select {
-            distinct: true,
-            items: None,
-            first: Reference {
-                name: name(alloc)?,
-                alias: None,
-            },
-            joins: Joins::from_vec(Vec::new(alloc)),
-            test: None,
-            group: ColumnNames::from_vec(Vec::new(alloc)),
-        })
-    }
-
-    // The rows of a table, each once.
-    fn rows_of(alloc: Global, item: u64) -> Result<Relation, CallFault> {
-        select_over(alloc, table(alloc, item)?, Vec::new(alloc), &select(alloc)?)
-    }
-
-    // How many tables and columns are in the union of two tables.
-    fn united_counts(alloc: Global) -> Result<(u64, usize), CallFault> {
-        let mut others = Vec::new(alloc);
-        others.push(rows_of(alloc, 2)?)?;
-        let whole = united(alloc, rows_of(alloc, 1)?, others)?;
-        Ok((whole.tables, whole.columns.as_slice().len()))
-    }
-
-    #[test]
-    fn unites_tables(rt: HostRuntime) -> Result<(), Fail> {
-        assert_eq!(rt; united_counts(rt.alloc())?, (2, 1));
-        Ok(())
-    }
+    small(all_joined(alloc, first, others)?)
 }

@@ -1,20 +1,22 @@
 //! What names stand for: tables, and views by their queries.
 ghost use Rattle.std.specs.Prelude.{◌≡◌, ◌<◌, IfOk, IfSome, bytes_eq, find, option_map};
 ghost use Rattle.mz_catalog.specs.CatalogState.{IsCatalog};
-ghost use Rattle.mz_log.specs.Columns.{name_or};
-ghost use Rattle.mz_log.specs.Queries.{queried, referred, selected};
-ghost use Rattle.mz_log.specs.Resolution.{item_relation, leaf_or, named, query_of, relation_of, without_number};
-ghost use Rattle.mz_log.specs.Steps.{each};
-ghost use Rattle.mz_resolve.specs.Gives.{Gives, Is};
+ghost use Rattle.mz_resolution.specs.Columns.{name_or};
+ghost use Rattle.mz_resolution.specs.Queries.{queried, referred, selected};
+ghost use Rattle.mz_plan.specs.Items.{query_of};
+ghost use Rattle.mz_resolution.specs.Resolution.{item_relation, leaf_or, named, relation_of, without_number};
+ghost use Rattle.mz_resolution.specs.Steps.{each};
+ghost use Rattle.mz_select.specs.Gives.{Gives, Is};
 ghost use Rattle.mz_resolve.specs.InCatalog.{items_below, names_below, scope_in};
 
-use crate::faults::{unknown_name, wrong_name};
 use crate::queries::{select_over, united};
-use mz_bag::Name;
 use mz_catalog::Catalog;
-use mz_log::{NamedRelation, Referred, Relation};
-use mz_plan::{CallFault, Item, ItemKind, Plan, Refusal};
+use mz_plan::{Item, ItemKind, Plan};
+use mz_refusal::{CallFault, Refusal};
+use mz_resolution::{NamedRelation, Referred, Relation};
+use mz_select::{unknown_name, wrong_name};
 use mz_statement::{Columns, Join, Reference, Select, Statement};
+use mz_value::Name;
 use std::alloc::{AllocError, Global};
 
 // What is read in place of a plan: the index, where there is one. Takes no memory.
@@ -55,6 +57,7 @@ fn query_of(statement: &Statement) -> &[Select]
 {
     match statement {
         Statement::Query(query, _) => query.as_slice(),
+        Statement::CreateView(_, query) => query.as_slice(),
         _ => &[],
     }
 }

@@ -1,20 +1,20 @@
 //! Statements resolved.
 ghost use Rattle.std.specs.Prelude.{◌≡◌, [], None};
-ghost use Rattle.mz_log.specs.Resolution.{named, newest_first, query_in, resolution};
-ghost use Rattle.mz_resolve.specs.Gives.{Is};
+ghost use Rattle.mz_resolution.specs.Resolution.{named, newest_first, query_in, resolution};
+ghost use Rattle.mz_select.specs.Gives.{Is};
 ghost use Rattle.mz_resolve.specs.InCatalog.{scope_in};
 ghost use Rattle.mz_statement.specs.declared.statement.Statement.TheVariants as the;
 
 use crate::commands::{delete, drop_index, drop_table, drop_view, insert};
 use crate::relations::{named, queried};
-use mz_bag::Name;
 use mz_catalog::Catalog;
-use mz_log::{NamedRelation, Relation};
-use mz_plan::{CallFault, Limited, Plan, Refusal, Resolved};
+use mz_plan::{Plan, Resolved};
+use mz_refusal::{CallFault, Refusal};
+use mz_resolution::{NamedRelation, Relation};
+use mz_select::{are_few, too_many_columns};
 use mz_statement::{Columns, Query, Select, Statement};
+use mz_value::Name;
 use std::alloc::Global;
-
-const MOST_COLUMNS: usize = 16;
 
 // The relation of a query over all items.
 fn query_in(
@@ -69,14 +69,11 @@ fn create_table(alloc: Global, name: &Name, columns: &Columns) -> Result<Resolve
     ensures { Is result
         (resolution (record { items = []; cluster = 0 }) (the.CreateTable name.now columns.now)) }
 {
-    if columns.as_slice().len() <= MOST_COLUMNS {
+    if are_few(columns.as_slice()) {
         let name = name.try_copy(alloc)?;
         Ok(Resolved::CreateTable(name, columns.try_copy(alloc)?))
     } else {
-        Err(CallFault::Refused(Refusal::TooMany {
-            what: Limited::Columns,
-            limit: 16,
-        }))
+        Err(CallFault::Refused(too_many_columns()))
     }
 }
 

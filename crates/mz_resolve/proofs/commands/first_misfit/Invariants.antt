@@ -1,5 +1,5 @@
 use Rattle.std.proofs.Common.{◌≡◌, drop}
-use Rattle.mz_log.specs.Resolution.{first_misfit}
+use Rattle.mz_resolution.specs.Resolution.{first_misfit}
 use Rattle.mz_resolve.proofs.commands.first_misfit.Given as goal
 
 -- the rows that are left decide

@@ -1,5 +1,5 @@
 use Rattle.std.proofs.Common.{ap}
-use Rattle.mz_log.specs.Resolution.{item_of}
+use Rattle.mz_resolution.specs.Resolution.{item_of}
 use Rattle.mz_resolve.proofs.NameLemmas.{found_item}
 use Rattle.mz_resolve.proofs.commands.item_in.Goals as goal
 

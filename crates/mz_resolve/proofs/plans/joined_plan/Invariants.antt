@@ -1,5 +1,5 @@
 use Rattle.std.proofs.Common.{◌≡◌}
-use Rattle.mz_log.specs.Queries.{joined_plan}
+use Rattle.mz_resolution.specs.Queries.{joined_plan}
 use Rattle.mz_resolve.proofs.plans.joined_plan.Given as goal
 
 -- the plan so far, joined with the references that are left

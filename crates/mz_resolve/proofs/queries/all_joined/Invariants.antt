@@ -1,5 +1,5 @@
 use Rattle.std.proofs.Common.{◌≡◌}
-use Rattle.mz_log.specs.Queries.{united}
+use Rattle.mz_resolution.specs.Queries.{united}
 use Rattle.mz_resolve.proofs.queries.all_joined.Given as goal
 
 -- what is united so far, with the relations that are left

@@ -1,5 +1,5 @@
 use Rattle.std.proofs.Common.{◌≡◌, ◌+◌, drop}
-use Rattle.mz_log.specs.Queries.{tables_of}
+use Rattle.mz_resolution.specs.Queries.{tables_of}
 use Rattle.mz_resolve.proofs.queries.tables_of.Given as goal
 
 -- the tables so far, with those of the references that are left

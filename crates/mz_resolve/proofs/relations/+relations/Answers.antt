@@ -1,7 +1,7 @@
 use Rattle.std.proofs.Common.{sym, subst}
 use Rattle.std.proofs.lemmas.Result.{err_from_is_err_and}
 use Rattle.mz_plan.proofs.IndexRules.{parted}
-use Rattle.mz_resolve.specs.Gives.{Is}
+use Rattle.mz_select.specs.Gives.{Is}
 use Rattle.mz_resolve.specs.InCatalog.{names_below}
 use Rattle.mz_resolve.proofs.NameLemmas.{named_found, named_nowhere}
 use Rattle.mz_resolve.proofs.RelationLemmas.{queried_fails, queried_first_fails, queried_is, selected_fails, selected_is}

@@ -1,5 +1,5 @@
 use Rattle.std.proofs.Common.{◌+◌, ◌*◌, drop}
-use Rattle.mz_log.specs.Queries.{referred, selected}
+use Rattle.mz_resolution.specs.Queries.{referred, selected}
 use Rattle.mz_resolve.specs.InCatalog.{names_below}
 use Rattle.mz_resolve.proofs.RelationLemmas.{SoFar}
 use Rattle.mz_resolve.proofs.relations.+relations.Given as goal

@@ -1,6 +1,6 @@
 use Rattle.std.proofs.Common.{ap, subst, ◌∙◌}
-use Rattle.mz_log.specs.Resolution.{named}
-use Rattle.mz_resolve.specs.Gives.{Is}
+use Rattle.mz_resolution.specs.Resolution.{named}
+use Rattle.mz_select.specs.Gives.{Is}
 use Rattle.mz_resolve.specs.InCatalog.{items_below, scope_in}
 use Rattle.mz_resolve.proofs.NameLemmas.{below_next}
 use Rattle.mz_resolve.proofs.statements.named_in.Goals as goal
