@@ -2,7 +2,7 @@
 use Rattle.std.proofs.Common.{◌≡◌, ◌∙◌, refl, sym, subst, ap, Bool, true, false, cond, List, [], ◌∷◌, Option, None, Some}
 use Rattle.std.specs.Prelude.{IfOk}
 use Rattle.std.specs.List.{AllByRecursion as Each, list_any}
-use Rattle.mz_bag.specs.declared.datum.Datum.{Datum}
+use Rattle.mz_value.specs.declared.datum.Datum.{Datum}
 use Rattle.mz_statement.specs.declared.column.ColumnType.{ColumnType}
 use Rattle.mz_statement.specs.declared.column.ColumnType.TheVariants as kind
 use Rattle.mz_statement.specs.declared.condition.Op.{Op}
@@ -13,9 +13,10 @@ use Rattle.mz_statement.specs.declared.reference.ColumnName.{ColumnName}
 use Rattle.mz_plan.specs.declared.condition.Cond.{Cond}
 use Rattle.mz_plan.specs.declared.condition.Cond.TheVariants as cond
 use Rattle.mz_plan.specs.declared.condition.Operand.TheVariants as operand
-use Rattle.mz_log.specs.Columns.{SeenColumn, View, is_clear, known, may_mean, meant, only_one}
-use Rattle.mz_log.specs.Conditions.{compared, condition, join_by, joined, listed, may_compare, same_type, tested, with_column, with_literal, with_side}
-use Rattle.mz_resolve_laws.specs.WellFormed.{CondFits, IsTyped, SomeCondFits}
+use Rattle.mz_resolution.specs.Columns.{SeenColumn, Sight, is_clear, known, may_mean, meant, only_one}
+use Rattle.mz_plan.specs.Types.{may_compare, same_type}
+use Rattle.mz_resolution.specs.Conditions.{compared, condition, join_by, joined, listed, tested, with_column, with_literal, with_side}
+use Rattle.mz_plan.specs.WellFormed.{CondFits, IsTyped, SomeCondFits}
 use Rattle.mz_resolve_laws.proofs.StepTools.{guard_ok, then_ok}
 
 -- ---- names of columns
@@ -31,9 +32,9 @@ only_one_ok P test (first ∷ xs) h x found = by (test first) (list_any test xs)
     by false d e k = k e
 
 -- what holds of each column that is seen holds of the one that a name means
-pub meant_ok : (P : SeenColumn → Type 0) (view : View) → Each P view.columns → (column : ColumnName) → IfOk (meant view column) P
-meant_ok P view h column =
-    by (is_clear column.qualifier view.called) (only_one (may_mean column) view.columns) (only_one_ok P (may_mean column) view.columns h)
+pub meant_ok : (P : SeenColumn → Type 0) (sight : Sight) → Each P sight.columns → (column : ColumnName) → IfOk (meant sight column) P
+meant_ok P sight h column =
+    by (is_clear column.qualifier sight.called) (only_one (may_mean column) sight.columns) (only_one_ok P (may_mean column) sight.columns h)
   where
     by : (c : Bool) (found : Option SeenColumn) → ((seen : SeenColumn) → found ≡ Some seen → P seen)
         → IfOk (known column (cond c found None)) P
@@ -97,52 +98,52 @@ with_literal_ok types column op left literal h =
     (λ fits. record { of_type = left.kind; here = h; fits = fits })
 
 -- with either
-with_side_ok : (types : List ColumnType) (view : View) → Each (SeesTyped types) view.columns
+with_side_ok : (types : List ColumnType) (sight : Sight) → Each (SeesTyped types) sight.columns
     → (column : ColumnName) (op : Op) (left : SeenColumn) (right : Side) → SeesTyped types left
-    → IfOk (with_side view column op left right) (CondFits types)
-with_side_ok types view h column op left (side.Column other) k =
-    then_ok (meant view other) _ (SeesTyped types) (CondFits types) (meant_ok (SeesTyped types) view h other)
+    → IfOk (with_side sight column op left right) (CondFits types)
+with_side_ok types sight h column op left (side.Column other) k =
+    then_ok (meant sight other) _ (SeesTyped types) (CondFits types) (meant_ok (SeesTyped types) sight h other)
     (λ right there. with_column_ok types column op left right k there)
-with_side_ok types view h column op left (side.Literal literal) k = with_literal_ok types column op left literal k
+with_side_ok types sight h column op left (side.Literal literal) k = with_literal_ok types column op left literal k
 
 -- a comparison
-compared_ok : (types : List ColumnType) (view : View) → Each (SeesTyped types) view.columns → (column : ColumnName) (op : Op) (right : Side)
-    → IfOk (compared view column op right) (CondFits types)
-compared_ok types view h column op right =
-    then_ok (meant view column) _ (SeesTyped types) (CondFits types) (meant_ok (SeesTyped types) view h column)
-    (λ left here. with_side_ok types view h column op left right here)
+compared_ok : (types : List ColumnType) (sight : Sight) → Each (SeesTyped types) sight.columns → (column : ColumnName) (op : Op) (right : Side)
+    → IfOk (compared sight column op right) (CondFits types)
+compared_ok types sight h column op right =
+    then_ok (meant sight column) _ (SeesTyped types) (CondFits types) (meant_ok (SeesTyped types) sight h column)
+    (λ left here. with_side_ok types sight h column op left right here)
 
 mutual
   -- a condition
-  tested_ok : (types : List ColumnType) (view : View) → Each (SeesTyped types) view.columns → (test : Test)
-      → IfOk (tested view test) (CondFits types)
-  tested_ok types view h (All' shape tests) = listed_ok types view h true tests
-  tested_ok types view h (Any' shape tests) = listed_ok types view h false tests
-  tested_ok types view h (Not' place (more_of-Test test end_of-Test)) =
-      then_ok (tested view test) _ (CondFits types) (CondFits types) (tested_ok types view h test) (λ below fits. fits_not types below fits)
-  tested_ok types view h (Compare column op right) = compared_ok types view h column op right
+  tested_ok : (types : List ColumnType) (sight : Sight) → Each (SeesTyped types) sight.columns → (test : Test)
+      → IfOk (tested sight test) (CondFits types)
+  tested_ok types sight h (All' shape tests) = listed_ok types sight h true tests
+  tested_ok types sight h (Any' shape tests) = listed_ok types sight h false tests
+  tested_ok types sight h (Not' place (more_of-Test test end_of-Test)) =
+      then_ok (tested sight test) _ (CondFits types) (CondFits types) (tested_ok types sight h test) (λ below fits. fits_not types below fits)
+  tested_ok types sight h (Compare column op right) = compared_ok types sight h column op right
 
   -- a list
-  listed_ok : {m : _} (types : List ColumnType) (view : View) → Each (SeesTyped types) view.columns
-      → (by_and : Bool) (tests : Row_of-Test m) → IfOk (listed view by_and tests) (CondFits types)
-  listed_ok types view h by_and end_of-Test = tt
-  listed_ok types view h by_and (more_of-Test test tests) =
-      then_ok (tested view test) _ (CondFits types) (CondFits types) (tested_ok types view h test)
-      (λ first fits. joined_ok types view h by_and first tests fits)
+  listed_ok : {m : _} (types : List ColumnType) (sight : Sight) → Each (SeesTyped types) sight.columns
+      → (by_and : Bool) (tests : Row_of-Test m) → IfOk (listed sight by_and tests) (CondFits types)
+  listed_ok types sight h by_and end_of-Test = tt
+  listed_ok types sight h by_and (more_of-Test test tests) =
+      then_ok (tested sight test) _ (CondFits types) (CondFits types) (tested_ok types sight h test)
+      (λ first fits. joined_ok types sight h by_and first tests fits)
 
   -- others
-  joined_ok : {m : _} (types : List ColumnType) (view : View) → Each (SeesTyped types) view.columns
+  joined_ok : {m : _} (types : List ColumnType) (sight : Sight) → Each (SeesTyped types) sight.columns
       → (by_and : Bool) (first : Cond) (tests : Row_of-Test m) → CondFits types first
-      → IfOk (joined view by_and first tests) (CondFits types)
-  joined_ok types view h by_and first end_of-Test fits = fits
-  joined_ok types view h by_and first (more_of-Test test tests) fits =
-      then_ok (tested view test) _ (CondFits types) (CondFits types) (tested_ok types view h test)
-      (λ second there. joined_ok types view h by_and (join_by by_and first second) tests
+      → IfOk (joined sight by_and first tests) (CondFits types)
+  joined_ok types sight h by_and first end_of-Test fits = fits
+  joined_ok types sight h by_and first (more_of-Test test tests) fits =
+      then_ok (tested sight test) _ (CondFits types) (CondFits types) (tested_ok types sight h test)
+      (λ second there. joined_ok types sight h by_and (join_by by_and first second) tests
       (fits_join_by types by_and first second fits there))
 
 -- the condition behind WHERE
-pub condition_ok : (types : List ColumnType) (view : View) → Each (SeesTyped types) view.columns → (test : Option Test)
-    → IfOk (condition view test) (SomeCondFits types)
-condition_ok types view h None = tt
-condition_ok types view h (Some test) =
-    then_ok (tested view test) _ (CondFits types) (SomeCondFits types) (tested_ok types view h test) (λ found fits. fits)
+pub condition_ok : (types : List ColumnType) (sight : Sight) → Each (SeesTyped types) sight.columns → (test : Option Test)
+    → IfOk (condition sight test) (SomeCondFits types)
+condition_ok types sight h None = tt
+condition_ok types sight h (Some test) =
+    then_ok (tested sight test) _ (CondFits types) (SomeCondFits types) (tested_ok types sight h test) (λ found fits. fits)

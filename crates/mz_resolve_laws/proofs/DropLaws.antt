@@ -9,16 +9,12 @@ use Rattle.std.proofs.lemmas.List.Elements.{All-contains, All-from_recursion, fi
 use Rattle.std.proofs.lemmas.List.Kept.{AllPairs-filter}
 use Rattle.mz_statement.specs.declared.query.Select.{Select}
 use Rattle.mz_statement.specs.declared.reference.Join.{Join}
-use Rattle.mz_statement.specs.declared.statement.Statement.{Statement}
-use Rattle.mz_statement.specs.declared.statement.Statement.TheVariants as statement
 use Rattle.mz_plan.specs.declared.item.Item.{Item}
 use Rattle.mz_plan.specs.declared.item.ItemKind.{ItemKind}
 use Rattle.mz_plan.specs.declared.item.ItemKind.TheVariants.{Table, View, Index}
 use Rattle.mz_plan.specs.declared.scope.Scope.{Scope}
-use Rattle.mz_catalog.specs.CatalogState.{Ascend, numbered}
-use Rattle.mz_catalog.specs.Dependents.{depends, dependents, dependents_on, names, references}
-use Rattle.mz_catalog.specs.Dependents as depending
-use Rattle.mz_log.specs.Resolution.{is_index, newest_first, query_of}
+use Rattle.mz_plan.specs.Items.{Ascend, numbered, depends, dependents, dependents_on, names, references, is_index, query_of}
+use Rattle.mz_resolution.specs.Resolution.{newest_first}
 use Rattle.mz_resolve_laws.specs.Growth.{without_item}
 use Rattle.mz_resolve_laws.specs.Sound.{IsSound, ViewsFit}
 use Rattle.mz_resolve_laws.proofs.Follows.{JoinsRead, Reads}
@@ -94,26 +90,14 @@ reads_none Q (select ∷ selects) h = (
         (list_any (λ reference. bytes_eq reference.name item.name) (map (λ join. join.reference) select.joins))
         (or_neither (list_any (λ reference. bytes_eq reference.name item.name) (references select)) (names selects item.name) (h item q)).0
 
--- what a view's statement asks
-reads_statement : (Q : Item → Type 0) (says : Statement) → ((item : Item) → Q item → names (depending.query_of says) item.name ≡ false)
-    → Reads (NamesNone Q) (query_of says)
-reads_statement Q (statement.Query query as_of) h = reads_none Q query h
-reads_statement Q other h = tt
-
 -- what doesn't depend on them
 pub kind_reads_none : (Q : Item → Type 0) (kind : ItemKind) → ((item : Item) → Q item → depends kind item ≡ false)
     → KindReads (NamesNone Q) kind
 kind_reads_none Q (Table columns) h = tt
-kind_reads_none Q (View columns says) h = reads_statement Q says h
+kind_reads_none Q (View columns says) h = reads_none Q (query_of says) h
 kind_reads_none Q (Index on below) h = tt
 
 -- ---- an item that goes
-
--- the two tests for an index are one
-index_tests : (kind : ItemKind) → depending.is_index kind ≡ is_index kind
-index_tests (Table columns) = refl
-index_tests (View columns query) = refl
-index_tests (Index on below) = refl
 
 -- a table or a view of this number
 pub record IsGone (items : List Item) (number : ℕ) (item : Item) : Type 0 where
@@ -122,19 +106,20 @@ pub record IsGone (items : List Item) (number : ℕ) (item : Item) : Type 0 wher
   pub readable : is_index item.kind ≡ false
 
 -- none depends on it
-none_depends : (items : List Item) → Ascend items → (number : ℕ) → dependents number items ≡ [] → (other : Item) → Contains items other
+pub none_depends : (items : List Item) → Ascend items → (number : ℕ) → dependents number items ≡ [] → (other : Item) → Contains items other
     → (item : Item) → IsGone items number item → depends other.kind item ≡ false
 none_depends items up number none other there item gone =
     let found : numbered number items ≡ Some item =
     by_number number (find (λ x. x.id == number)) Some (λ x xs. refl) items up item gone.numbered gone.there in
     let empty : dependents_on item items ≡ [] = sym (ap (λ o. option_map_or (λ on. dependents_on on items) o []) found) ∙ none in
     let kept : filter (λ x. depends x.kind item) items ≡ [] =
-    sym (ap (λ c. cond c [] (filter (λ x. depends x.kind item) items)) (index_tests item.kind ∙ gone.readable)) ∙ empty in
+    sym (ap (λ c. cond c [] (filter (λ x. depends x.kind item) items)) gone.readable) ∙ empty in
     All-contains (λ x. depends x.kind item ≡ false) items other
     (All-from_recursion (λ x. depends x.kind item ≡ false) items (filter_none (λ x. depends x.kind item) items kept)) there
 
 -- each item stays, or is the one that goes
-items_stay : (all : List Item) → Ascend all → (number : ℕ) → dependents number all ≡ [] → (items : List Item) → Each (Contains all) items
+pub items_stay : (all : List Item) → Ascend all → (number : ℕ) → dependents number all ≡ [] → (items : List Item)
+    → Each (Contains all) items
     → Each (Stays false (NamesNone (IsGone all number)) (λ item. not (item.id == number))) items
 items_stay all up number none [] there = tt
 items_stay all up number none (item ∷ items) there = (

@@ -2,22 +2,23 @@
 use Rattle.std.proofs.Common.{◌≡◌, ◌∙◌, ◌+◌, refl, subst, ap, ℕ, Bool, true, false, cond, List, [], ◌∷◌, ◌++◌, map, length, Result, Ok, Err, Option, nat_le, codes}
 use Rattle.std.specs.Prelude.{⊤}
 use Rattle.std.specs.List.{AllByRecursion as Each, AllZip}
+use Rattle.mz_plan.specs.Small.{most_tables}
 use Rattle.mz_statement.specs.declared.query.Select.{Select}
 use Rattle.mz_statement.specs.declared.reference.Join.{Join}
 use Rattle.mz_statement.specs.declared.reference.Reference.{Reference}
 use Rattle.mz_plan.specs.declared.condition.Cond.{Cond}
 use Rattle.mz_plan.specs.declared.plan.Plan.{Union}
-use Rattle.mz_plan.specs.declared.refusal.Limited.TheVariants.{Columns}
-use Rattle.mz_plan.specs.declared.refusal.Refusal.{Refusal}
-use Rattle.mz_plan.specs.declared.refusal.Refusal.TheVariants.{TooMany, TooManyLeaves, WrongType}
-use Rattle.mz_log.specs.declared.relation.Listing.{Listing}
-use Rattle.mz_log.specs.declared.relation.Referred.{Referred}
-use Rattle.mz_log.specs.declared.relation.Relation.{Relation}
-use Rattle.mz_log.specs.Columns.{View, columns_from, columns_of, view_of}
-use Rattle.mz_log.specs.Conditions.{condition, equalities}
-use Rattle.mz_log.specs.Listings.{keys_of, listing}
-use Rattle.mz_log.specs.Queries.{Names, place_meant, queried, referred, same_types, select_of, select_over, selected, united}
-use Rattle.mz_log.specs.Steps.{Step, ◌>>=◌, each}
+use Rattle.mz_refusal.specs.declared.refusal.Limited.TheVariants.{Columns}
+use Rattle.mz_refusal.specs.declared.refusal.Refusal.{Refusal}
+use Rattle.mz_refusal.specs.declared.refusal.Refusal.TheVariants.{TooMany, TooManyLeaves, WrongType}
+use Rattle.mz_resolution.specs.declared.relation.Listing.{Listing}
+use Rattle.mz_resolution.specs.declared.relation.Referred.{Referred}
+use Rattle.mz_resolution.specs.declared.relation.Relation.{Relation}
+use Rattle.mz_resolution.specs.Columns.{Sight, columns_from, columns_of, sight_of}
+use Rattle.mz_resolution.specs.Conditions.{condition, equalities}
+use Rattle.mz_resolution.specs.Listings.{keys_of, listing}
+use Rattle.mz_resolution.specs.Queries.{Names, place_meant, queried, referred, same_types, select_of, select_over, selected, united, most_columns}
+use Rattle.mz_resolution.specs.Steps.{Step, ◌>>=◌, each}
 
 -- ---- steps
 
@@ -118,7 +119,7 @@ columns_alike R carried start owner (one ∷ ones) (other ∷ others) h =
 
 -- what a select sees
 view_alike : (R : Relation → Relation → Type 0) → IsCarried R → (ones others : List Referred) → AllZip (AreCalledAlike R) ones others
-    → view_of ones ≡ view_of others
+    → sight_of ones ≡ sight_of others
 view_alike R carried ones others h i =
     record { called = called_alike R ones others h i; columns = columns_alike R carried 0 0 ones others h i }
 
@@ -146,19 +147,19 @@ referred_follows strict R P names others h reference k =
 
 -- a select that sees the same
 over_follows : (strict : Bool) (R : Relation → Relation → Type 0) → IsCarried R
-    → (view : View) (first other : Referred) (rest others : List Referred) → AreCalledAlike R first other
+    → (sight : Sight) (first other : Referred) (rest others : List Referred) → AreCalledAlike R first other
     → AllZip (AreCalledAlike R) rest others → (select : Select)
-    → Follows strict R (select_over view first rest select) (select_over view other others select)
-over_follows strict R carried view first other rest others h k select =
-    same_then strict (equalities view 1 select.joins) _ _ R (λ pairs. same_then strict (condition view select.test) _ _ R (λ cond.
-    same_then strict (each (place_meant view) select.group) _ _ R
-    (λ places. same_then strict (listing view (keys_of select places) select.items) _ _ R (λ found.
-    follows_choice strict (nat_le (length found.columns) 16) (nat_le (length found.columns) 16) refl
+    → Follows strict R (select_over sight first rest select) (select_over sight other others select)
+over_follows strict R carried sight first other rest others h k select =
+    same_then strict (equalities sight 1 select.joins) _ _ R (λ pairs. same_then strict (condition sight select.test) _ _ R (λ cond.
+    same_then strict (each (place_meant sight) select.group) _ _ R
+    (λ places. same_then strict (listing sight (keys_of select places) select.items) _ _ R (λ found.
+    follows_choice strict (nat_le (length found.columns) most_columns) (nat_le (length found.columns) most_columns) refl
     (Ok (select_of first rest select pairs cond (keys_of select places) found))
     (Ok (select_of other others select pairs cond (keys_of select places) found))
-    (Err (TooMany Columns 16)) (Err (TooMany Columns 16)) R
+    (Err (TooMany Columns most_columns)) (Err (TooMany Columns most_columns)) R
     (carried.selects first other rest others h k select pairs cond (keys_of select places) found)
-    (refuses_same Relation strict (TooMany Columns 16) (TooMany Columns 16) refl)))))
+    (refuses_same Relation strict (TooMany Columns most_columns) (TooMany Columns most_columns) refl)))))
 
 -- a select
 selected_follows : (strict : Bool) (R : Relation → Relation → Type 0) → IsCarried R → (P : List ℕ → Type 0) (names others : Names)
@@ -172,10 +173,10 @@ selected_follows strict R carried P names others h select reads =
     (follows_each strict (λ join. P join.reference.name) (λ join. referred names join.reference) (λ join. referred others join.reference)
     (AreCalledAlike R)
     (λ join. referred_follows strict R P names others h join.reference) select.joins reads.1)
-    (λ rest more there. subst (λ view. Follows strict R (select_over (view_of (first ∷ rest)) first rest select)
-    (select_over view other more select))
+    (λ rest more there. subst (λ sight. Follows strict R (select_over (sight_of (first ∷ rest)) first rest select)
+    (select_over sight other more select))
     (view_alike R carried (first ∷ rest) (other ∷ more) (here, there))
-    (over_follows strict R carried (view_of (first ∷ rest)) first other rest more here there select)))
+    (over_follows strict R carried (sight_of (first ∷ rest)) first other rest more here there select)))
 
 -- UNION ALL
 united_follows : (strict : Bool) (R : Relation → Relation → Type 0) → IsCarried R → (whole other : Relation) (rest others : List Relation)
@@ -209,7 +210,7 @@ queried_follows strict R carried P names others h (select ∷ selects) reads =
     (selected_follows strict R carried P names others h) selects reads.1) (λ rest more there.
     follows_then strict (united first rest) (united other more) _ _ R R (united_follows strict R carried first other rest more here there)
     (λ whole one alike.
-    follows_choice strict (nat_le whole.tables 4) (nat_le one.tables 4) (ap (λ n. nat_le n 4) (carried.tables whole one alike)) (Ok whole)
+    follows_choice strict (nat_le whole.tables most_tables) (nat_le one.tables most_tables) (ap (λ n. nat_le n most_tables) (carried.tables whole one alike)) (Ok whole)
     (Ok one)
     (Err (TooManyLeaves whole.tables)) (Err (TooManyLeaves one.tables)) R
     alike (refuses_same Relation strict (TooManyLeaves whole.tables) (TooManyLeaves one.tables)

@@ -11,13 +11,16 @@ use Rattle.mz_statement.specs.declared.reference.Join.{Join}
 use Rattle.mz_plan.specs.declared.item.Item.{Item}
 use Rattle.mz_plan.specs.declared.plan.Plan as plans
 use Rattle.mz_plan.specs.declared.plan.Plan.{Plan}
-use Rattle.mz_log.specs.declared.relation.Referred.{Referred}
-use Rattle.mz_log.specs.Columns.{SeenColumn, View, columns_from, columns_of, meant}
-use Rattle.mz_log.specs.Conditions.{are_sides, equalities, equality, same_type}
-use Rattle.mz_log.specs.Listings.{own_column}
-use Rattle.mz_log.specs.Queries.{joined_plan}
-use Rattle.mz_log.specs.Steps.{each}
-use Rattle.mz_resolve_laws.specs.WellFormed.{AreOfOneType, IsTyped, IsTypedRelation, IsWellFormed, PairsFit, plan_types, types_of}
+use Rattle.mz_resolution.specs.declared.relation.Referred.{Referred}
+use Rattle.mz_resolution.specs.Columns.{SeenColumn, Sight, columns_from, columns_of, meant}
+use Rattle.mz_plan.specs.Types.{same_type}
+use Rattle.mz_resolution.specs.Conditions.{are_sides, equalities, equality}
+use Rattle.mz_resolution.specs.Listings.{own_column}
+use Rattle.mz_resolution.specs.Queries.{joined_plan}
+use Rattle.mz_resolution.specs.Steps.{each}
+use Rattle.mz_plan.specs.Types.{plan_types, types_of}
+use Rattle.mz_plan.specs.WellFormed.{AreOfOneType, IsTyped, IsWellFormed, PairsFit}
+use Rattle.mz_resolve_laws.specs.WellFormed.{IsTypedRelation}
 use Rattle.mz_resolve_laws.proofs.CondTypes.{meant_ok, same_type_same}
 use Rattle.mz_resolve_laws.proofs.FormRules.{form_of_join, types_of_join}
 use Rattle.mz_resolve_laws.proofs.StepTools.{choice_ok, each_ok, guard_ok, then_ok}
@@ -177,11 +180,11 @@ sides_pair sees number left right h k sides =
     }
 
 -- an equality
-equality_ok : (sees : SeenColumn → Type 0) (view : View) → Each sees view.columns → (number : ℕ) (pair : ColumnPair)
-    → IfOk (equality view number pair) (IsPairOf sees number)
-equality_ok sees view h number pair =
-    then_ok (meant view pair.left) _ sees (IsPairOf sees number) (meant_ok sees view h pair.left) (λ left here.
-    then_ok (meant view pair.right) _ sees (IsPairOf sees number) (meant_ok sees view h pair.right) (λ right there.
+equality_ok : (sees : SeenColumn → Type 0) (sight : Sight) → Each sees sight.columns → (number : ℕ) (pair : ColumnPair)
+    → IfOk (equality sight number pair) (IsPairOf sees number)
+equality_ok sees sight h number pair =
+    then_ok (meant sight pair.left) _ sees (IsPairOf sees number) (meant_ok sees sight h pair.left) (λ left here.
+    then_ok (meant sight pair.right) _ sees (IsPairOf sees number) (meant_ok sees sight h pair.right) (λ right there.
     choice_ok (are_sides number left right) _ _ (IsPairOf sees number) (λ sides. sides_pair sees number left right here there sides) (λ _.
     guard_ok (are_sides number right left) (right.place, left.within) _ (IsPairOf sees number)
     (λ sides. sides_pair sees number right left there here sides))))
@@ -192,15 +195,15 @@ pub record AreEqualities (sees : SeenColumn → Type 0) (number joins : ℕ) (pa
   pub many : length pairs ≡ joins
 
 -- the equalities of JOINs
-pub equalities_ok : (sees : SeenColumn → Type 0) (view : View) → Each sees view.columns → (number : ℕ) (joins : List Join)
-    → IfOk (equalities view number joins) (AreEqualities sees number (length joins))
-equalities_ok sees view h number [] = record { are = tt; many = refl }
-equalities_ok sees view h number (join ∷ joins) =
-    then_ok (each (equality view number) join.pairs) _ (Each (IsPairOf sees number)) (AreEqualities sees number (length (join ∷ joins)))
-    (each_ok (equality view number) (IsPairOf sees number) (equality_ok sees view h number) join.pairs) (λ first here.
-    then_ok (equalities view (number + 1) joins) _ (AreEqualities sees (number + 1) (length joins))
+pub equalities_ok : (sees : SeenColumn → Type 0) (sight : Sight) → Each sees sight.columns → (number : ℕ) (joins : List Join)
+    → IfOk (equalities sight number joins) (AreEqualities sees number (length joins))
+equalities_ok sees sight h number [] = record { are = tt; many = refl }
+equalities_ok sees sight h number (join ∷ joins) =
+    then_ok (each (equality sight number) join.pairs) _ (Each (IsPairOf sees number)) (AreEqualities sees number (length (join ∷ joins)))
+    (each_ok (equality sight number) (IsPairOf sees number) (equality_ok sees sight h number) join.pairs) (λ first here.
+    then_ok (equalities sight (number + 1) joins) _ (AreEqualities sees (number + 1) (length joins))
     (AreEqualities sees number (length (join ∷ joins)))
-    (equalities_ok sees view h (number + 1) joins) (λ others there. record { are = (here, there.are); many = ap suc there.many }))
+    (equalities_ok sees sight h (number + 1) joins) (λ others there. record { are = (here, there.are); many = ap suc there.many }))
 
 -- ---- joins
 

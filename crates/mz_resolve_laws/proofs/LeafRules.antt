@@ -3,7 +3,7 @@ use Rattle.std.proofs.Common.{ℕ, List}
 use Rattle.mz_plan.specs.declared.aggregate.Aggregate.{Aggregate}
 use Rattle.mz_plan.specs.declared.condition.Cond.{Cond}
 use Rattle.mz_plan.specs.declared.plan.Plan.{Plan, Filter, Project, Join, Union, Group, Distinct}
-use Rattle.mz_resolve_laws.specs.OfScope.{AllLeaves}
+use Rattle.mz_plan.specs.Leaves.{AllLeaves}
 
 -- of a filter
 pub leaves_of_filter : (t i : ℕ → Type 0) (plan : Plan) (cond : Cond) → AllLeaves t i plan → AllLeaves t i (Filter plan cond)

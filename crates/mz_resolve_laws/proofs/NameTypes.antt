@@ -10,14 +10,16 @@ use Rattle.mz_plan.specs.declared.item.ItemKind.{ItemKind}
 use Rattle.mz_plan.specs.declared.item.ItemKind.TheVariants.{Table, View, Index}
 use Rattle.mz_plan.specs.declared.plan.Plan.{Plan}
 use Rattle.mz_plan.specs.declared.plan.Plan.TheVariants as plans
-use Rattle.mz_plan.specs.declared.refusal.Refusal.{Refusal}
+use Rattle.mz_refusal.specs.declared.refusal.Refusal.{Refusal}
 use Rattle.mz_plan.specs.declared.scope.Scope.{Scope}
-use Rattle.mz_catalog.specs.CatalogState.{Ascend}
-use Rattle.mz_log.specs.declared.relation.NamedRelation.{NamedRelation}
-use Rattle.mz_log.specs.Queries.{queried}
-use Rattle.mz_log.specs.Resolution.{is_on, item_relation, leaf_or, named, newest_first, oldest_index, query_in, query_of, without_number}
+use Rattle.mz_plan.specs.Items.{Ascend, is_on, oldest_index, query_of}
+use Rattle.mz_resolution.specs.declared.relation.NamedRelation.{NamedRelation}
+use Rattle.mz_resolution.specs.Queries.{queried}
+use Rattle.mz_resolution.specs.Resolution.{item_relation, leaf_or, named, newest_first, query_in, without_number}
 use Rattle.mz_resolve_laws.specs.Sound.{IsSound, ViewFits, ViewsFit, names_among}
-use Rattle.mz_resolve_laws.specs.WellFormed.{IsTypedRelation, IsWellFormed, plan_types, types_of}
+use Rattle.mz_plan.specs.Types.{plan_types, types_of}
+use Rattle.mz_plan.specs.WellFormed.{IsWellFormed}
+use Rattle.mz_resolve_laws.specs.WellFormed.{IsTypedRelation}
 use Rattle.mz_resolve_laws.proofs.ScopeLeaves.{all_there, found_passes, newest_there}
 use Rattle.mz_resolve_laws.proofs.SelectTypes.{NamesTyped, queried_typed}
 use Rattle.mz_resolve_laws.proofs.StepTools.{choice_ok, then_ok}
@@ -25,7 +27,7 @@ use Rattle.mz_resolve_laws.proofs.StepTools.{choice_ok, then_ok}
 -- ---- items by their numbers
 
 -- what holds of each pair holds of each pair of the others
-pairs_tail : {X : Type 0} (R : X → X → Type 0) (x : X) (xs : List X) → AllPairs R (x ∷ xs) → AllPairs R xs
+pub pairs_tail : {X : Type 0} (R : X → X → Type 0) (x : X) (xs : List X) → AllPairs R (x ∷ xs) → AllPairs R xs
 pairs_tail R x xs h i j d before within = h (suc i) (suc j) d (omega arith) (omega arith)
 
 -- what a search by number finds, where numbers ascend
@@ -54,7 +56,7 @@ own_of items up item there =
     by_number item.id (λ xs. relation_columns xs item.id) (λ x. own_columns x.kind) (λ x xs. refl) items up item refl there
 
 -- and those that its leaf has
-item_of_number : (items : List Item) → Ascend items → (item : Item) → Contains items item
+pub item_of_number : (items : List Item) → Ascend items → (item : Item) → Contains items item
     → item_columns items items item.id ≡ kind_columns items item.kind
 item_of_number items up item there =
     by_number item.id (λ xs. item_columns items xs item.id) (λ x. kind_columns items x.kind) (λ x xs. refl) items up item refl there
@@ -75,8 +77,8 @@ pub record IsTypedItem (items : List Item) (found : NamedRelation) : Type 0 wher
 -- the plan of an item, where that below is typed
 leaf_typed : (scope : Scope) → Ascend scope.items → (item : Item) → Contains scope.items item → (below : Plan)
     → IsWellFormed scope.items below → plan_types scope.items below ≡ types_of (own_columns item.kind)
-    → IsWellFormed scope.items (leaf_or (oldest_index scope item.id) below)
-    × (plan_types scope.items (leaf_or (oldest_index scope item.id) below) ≡ types_of (own_columns item.kind))
+    → IsWellFormed scope.items (leaf_or (oldest_index scope.items scope.cluster item.id) below)
+    × (plan_types scope.items (leaf_or (oldest_index scope.items scope.cluster item.id) below) ≡ types_of (own_columns item.kind))
 leaf_typed scope up item there below h same =
     by (find (λ other. other.cluster == scope.cluster && is_on item.id other.kind) scope.items) refl
   where

@@ -9,17 +9,18 @@ use Rattle.mz_plan.specs.declared.item.Item.{Item}
 use Rattle.mz_plan.specs.declared.item.ItemKind.{ItemKind}
 use Rattle.mz_plan.specs.declared.item.ItemKind.TheVariants.{Table, View, Index}
 use Rattle.mz_plan.specs.declared.plan.Plan.TheVariants as plans
-use Rattle.mz_plan.specs.declared.refusal.Refusal.{Refusal}
-use Rattle.mz_plan.specs.declared.refusal.Refusal.TheVariants.{UnknownName, WrongType}
+use Rattle.mz_refusal.specs.declared.refusal.Refusal.{Refusal}
+use Rattle.mz_refusal.specs.declared.refusal.Refusal.TheVariants.{UnknownName, WrongType}
 use Rattle.mz_plan.specs.declared.scope.Scope.{Scope}
-use Rattle.mz_log.specs.declared.relation.NamedRelation.{NamedRelation}
-use Rattle.mz_log.specs.declared.relation.Referred.{Referred}
-use Rattle.mz_log.specs.declared.relation.Relation.{Relation}
-use Rattle.mz_log.specs.Queries.{queried, tables_of}
-use Rattle.mz_log.specs.Resolution.{is_index, item_relation, named, query_of, relation_of, without_number}
+use Rattle.mz_resolution.specs.declared.relation.NamedRelation.{NamedRelation}
+use Rattle.mz_resolution.specs.declared.relation.Referred.{Referred}
+use Rattle.mz_resolution.specs.declared.relation.Relation.{Relation}
+use Rattle.mz_resolution.specs.Queries.{queried, tables_of}
+use Rattle.mz_plan.specs.Items.{is_index, query_of}
+use Rattle.mz_resolution.specs.Resolution.{item_relation, named, relation_of, without_number}
 use Rattle.mz_resolve_laws.specs.Alike.{AreAlike, GivesAlike}
 use Rattle.mz_resolve_laws.specs.Sound.{ViewFits, ViewsFit, names_among}
-use Rattle.mz_resolve_laws.specs.WellFormed.{types_of}
+use Rattle.mz_plan.specs.Types.{types_of}
 use Rattle.mz_resolve_laws.proofs.Follows.{AreCalledAlike, Follows, IsCarried, JoinsRead, Reads, follows_choice, follows_then, queried_follows, refuses_same}
 
 -- ---- names
@@ -55,7 +56,7 @@ pub record Stays (strict : Bool) (P : List ℕ → Type 0) (keep : Item → Bool
       → bytes_eq word item.name ≡ false)
 
 -- an item
-item_follows : (strict : Bool) (R : Relation → Relation → Type 0) (one other : Scope) → IsCarriedBy R one other
+pub item_follows : (strict : Bool) (R : Relation → Relation → Type 0) (one other : Scope) → IsCarriedBy R one other
     → (P : List ℕ → Type 0) (older fewer : List Item)
     → ((word : List ℕ) → P word → Follows strict (AreNamedBy R) (named one older word) (named other fewer word))
     → (item : Item) (kind : ItemKind) → KindReads P kind
@@ -200,12 +201,12 @@ kind_reads_all (View columns query) = reads_all (query_of query)
 kind_reads_all (Index on below) = tt
 
 -- where all are kept
-all_stay : (items : List Item) → Each (Stays true (λ word. ⊤) (λ item. true)) items
+pub all_stay : (items : List Item) → Each (Stays true (λ word. ⊤) (λ item. true)) items
 all_stay [] = tt
 all_stay (item ∷ items) = (record { reads = kind_reads_all item.kind; gone = λ e. absurd cc }, all_stay items)
 
 -- those that are kept are all
-filter_all : (items : List Item) → filter (λ item. true) items ≡ items
+pub filter_all : (items : List Item) → filter (λ item. true) items ≡ items
 filter_all [] = refl
 filter_all (item ∷ items) = ap (λ others. item ∷ others) (filter_all items)
 

@@ -9,15 +9,14 @@ use Rattle.mz_statement.specs.declared.statement.Statement.TheVariants as statem
 use Rattle.mz_plan.specs.declared.item.Item.{Item}
 use Rattle.mz_plan.specs.declared.plan.Plan.{Union}
 use Rattle.mz_plan.specs.declared.plan.Plan.TheVariants as plans
-use Rattle.mz_plan.specs.declared.refusal.Refusal.{Refusal}
+use Rattle.mz_refusal.specs.declared.refusal.Refusal.{Refusal}
 use Rattle.mz_plan.specs.declared.scope.Scope.{Scope}
-use Rattle.mz_catalog.specs.CatalogState.{Ascend}
-use Rattle.mz_catalog.specs.Dependents.{depends, names}
-use Rattle.mz_log.specs.declared.relation.Referred.{Referred}
-use Rattle.mz_log.specs.declared.relation.Relation.{Relation}
-use Rattle.mz_log.specs.Queries.{queried, select_of}
-use Rattle.mz_log.specs.Resolution.{is_index, is_on, leaf_or, named, newest_first, oldest_index, query_in, resolution}
-use Rattle.mz_log.specs.Steps.{Step, ◌>>=◌}
+use Rattle.mz_plan.specs.Items.{Ascend, depends, names, is_index, is_on, oldest_index}
+use Rattle.mz_resolution.specs.declared.relation.Referred.{Referred}
+use Rattle.mz_resolution.specs.declared.relation.Relation.{Relation}
+use Rattle.mz_resolution.specs.Queries.{queried, select_of}
+use Rattle.mz_resolution.specs.Resolution.{leaf_or, named, newest_first, query_in, resolution}
+use Rattle.mz_resolution.specs.Steps.{Step, ◌>>=◌}
 use Rattle.mz_resolve_laws.specs.Growth.{IsForeignIndex, without_item}
 use Rattle.mz_resolve_laws.specs.Sound.{names_among}
 use Rattle.mz_resolve_laws.proofs.DropLaws.{NamesNone, filter_reverse, kind_reads_none, reads_none}
@@ -42,7 +41,9 @@ all_one (one ∷ ones) [] h = elim h [ ]
 all_one (one ∷ ones) (other ∷ others) h = λ i. referred_one one other h.0 i ∷ all_one ones others h.1 i
 
 -- scopes that read the same indexes carry such relations on
-one_carried : (one other : Scope) → ((item : ℕ) → oldest_index one item ≡ oldest_index other item) → IsCarriedBy AreOne one other
+one_carried : (one other : Scope)
+    → ((item : ℕ) → oldest_index one.items one.cluster item ≡ oldest_index other.items other.cluster item)
+    → IsCarriedBy AreOne one other
 one_carried one other same = record {
   queries = record {
     columns = λ x y h. ap (λ r. r.columns) h;
@@ -88,7 +89,8 @@ gone_is_index scope up index there item here e =
 
 -- the same indexes are read
 same_indexes : (scope : Scope) → Ascend scope.items → (index : Item) → IsForeignIndex scope index → (item : ℕ)
-    → oldest_index scope item ≡ oldest_index (without_item index.id scope) item
+    → oldest_index scope.items scope.cluster item
+    ≡ oldest_index (without_item index.id scope).items (without_item index.id scope).cluster item
 same_indexes scope up index foreign item =
     ap (option_map (λ x. x.id)) (find_kept test keep scope.items (each scope.items (all_there scope)))
   where

@@ -7,14 +7,14 @@ use Rattle.mz_statement.specs.declared.reference.Reference.{Reference}
 use Rattle.mz_plan.specs.declared.aggregate.Aggregate.{Aggregate}
 use Rattle.mz_plan.specs.declared.condition.Cond.{Cond}
 use Rattle.mz_plan.specs.declared.plan.Plan.{Plan, Join, Union}
-use Rattle.mz_log.specs.declared.relation.Referred.{Referred}
-use Rattle.mz_log.specs.declared.relation.Relation.{Relation}
-use Rattle.mz_log.specs.Columns.{View, view_of}
-use Rattle.mz_log.specs.Conditions.{condition, equalities}
-use Rattle.mz_log.specs.Listings.{keys_of, listing}
-use Rattle.mz_log.specs.Queries.{Names, distinct_plan, filtered_plan, grouped_plan, joined_plan, place_meant, projected_plan, queried, referred, same_types, select_of, select_over, selected, united}
-use Rattle.mz_log.specs.Steps.{each}
-use Rattle.mz_resolve_laws.specs.OfScope.{AllLeaves}
+use Rattle.mz_resolution.specs.declared.relation.Referred.{Referred}
+use Rattle.mz_resolution.specs.declared.relation.Relation.{Relation}
+use Rattle.mz_resolution.specs.Columns.{Sight, sight_of}
+use Rattle.mz_resolution.specs.Conditions.{condition, equalities}
+use Rattle.mz_resolution.specs.Listings.{keys_of, listing}
+use Rattle.mz_resolution.specs.Queries.{Names, distinct_plan, filtered_plan, grouped_plan, joined_plan, place_meant, projected_plan, queried, referred, same_types, select_of, select_over, selected, united}
+use Rattle.mz_resolution.specs.Steps.{each}
+use Rattle.mz_plan.specs.Leaves.{AllLeaves}
 use Rattle.mz_resolve_laws.proofs.LeafRules.{leaves_of_distinct, leaves_of_filter, leaves_of_group, leaves_of_join, leaves_of_project, leaves_of_union}
 use Rattle.mz_resolve_laws.proofs.StepTools.{any_then_ok, each_ok, guard_ok, choice_ok, then_ok}
 
@@ -63,13 +63,13 @@ distinct_fits t i false plan h = h
 distinct_fits t i true plan h = leaves_of_distinct t i plan h
 
 -- a select over its references
-over_fits : (t i : ℕ → Type 0) (view : View) (first : Referred) (others : List Referred) (select : Select) → Fit t i first.relation
+over_fits : (t i : ℕ → Type 0) (sight : Sight) (first : Referred) (others : List Referred) (select : Select) → Fit t i first.relation
     → Each (λ r. Fit t i r.relation) others
-    → IfOk (select_over view first others select) (Fit t i)
-over_fits t i view first others select h k =
-    any_then_ok (equalities view 1 select.joins) _ (Fit t i) (λ pairs _. any_then_ok (condition view select.test) _ (Fit t i) (λ cond _.
-    any_then_ok (each (place_meant view) select.group) _ (Fit t i)
-    (λ places _. any_then_ok (listing view (keys_of select places) select.items) _ (Fit t i) (λ found _.
+    → IfOk (select_over sight first others select) (Fit t i)
+over_fits t i sight first others select h k =
+    any_then_ok (equalities sight 1 select.joins) _ (Fit t i) (λ pairs _. any_then_ok (condition sight select.test) _ (Fit t i) (λ cond _.
+    any_then_ok (each (place_meant sight) select.group) _ (Fit t i)
+    (λ places _. any_then_ok (listing sight (keys_of select places) select.items) _ (Fit t i) (λ found _.
     guard_ok _ (select_of first others select pairs cond (keys_of select places) found) _ (Fit t i) (λ _.
     distinct_fits t i select.distinct _ (projected_fits t i found.places _ (grouped_fits t i (keys_of select places) found.aggregates _
     (filtered_fits t i cond _ (joined_fits t i first.relation.plan others pairs h k)))))))))
@@ -81,7 +81,7 @@ selected_fits t i names h select =
     then_ok (each (λ join. referred names join.reference) select.joins) _ (Each (λ r. Fit t i r.relation)) (Fit t i)
     (each_ok (λ join. referred names join.reference) (λ r. Fit t i r.relation)
     (λ join. referred_fits t i names h join.reference) select.joins)
-    (λ others there. over_fits t i (view_of (first ∷ others)) first others select here there))
+    (λ others there. over_fits t i (sight_of (first ∷ others)) first others select here there))
 
 -- UNION ALL
 united_fits : (t i : ℕ → Type 0) (whole : Relation) (others : List Relation) → Fit t i whole → Each (Fit t i) others

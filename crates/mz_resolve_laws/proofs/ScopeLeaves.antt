@@ -13,9 +13,10 @@ use Rattle.mz_plan.specs.declared.item.ItemKind.TheVariants.{Table, View, Index}
 use Rattle.mz_plan.specs.declared.plan.Plan.{Plan}
 use Rattle.mz_plan.specs.declared.plan.Plan.TheVariants as plan
 use Rattle.mz_plan.specs.declared.scope.Scope.{Scope}
-use Rattle.mz_log.specs.declared.relation.NamedRelation.{NamedRelation}
-use Rattle.mz_log.specs.Queries.{Names, queried}
-use Rattle.mz_log.specs.Resolution.{is_index, is_on, is_table, item_relation, leaf_or, named, newest_first, oldest_index, query_in, query_of, without_number}
+use Rattle.mz_resolution.specs.declared.relation.NamedRelation.{NamedRelation}
+use Rattle.mz_resolution.specs.Queries.{Names, queried}
+use Rattle.mz_plan.specs.Items.{is_index, is_on, is_table, oldest_index, query_of}
+use Rattle.mz_resolution.specs.Resolution.{item_relation, leaf_or, named, newest_first, query_in, without_number}
 use Rattle.mz_resolve_laws.specs.OfScope.{HasItem, IsOfScope, is_called, is_index_in, is_readable}
 use Rattle.mz_resolve_laws.proofs.QueryLeaves.{queried_fits}
 use Rattle.mz_resolve_laws.proofs.StepTools.{choice_ok, then_ok}
@@ -73,7 +74,8 @@ on_is_index cluster relation item h = by (item.cluster == cluster) item.kind h
     by false kind h = h
 
 -- the plan of a relation, where that of the item is of the scope
-leaf_fits : (scope : Scope) (item : ℕ) (below : Plan) → IsOfScope scope below → IsOfScope scope (leaf_or (oldest_index scope item) below)
+leaf_fits : (scope : Scope) (item : ℕ) (below : Plan) → IsOfScope scope below
+    → IsOfScope scope (leaf_or (oldest_index scope.items scope.cluster item) below)
 leaf_fits scope item below h = by (find (λ other. other.cluster == scope.cluster && is_on item other.kind) scope.items) refl
   where
     by : (found : Option Item) → find (λ other. other.cluster == scope.cluster && is_on item other.kind) scope.items ≡ found

@@ -2,7 +2,7 @@
 use Rattle.std.proofs.Common.{◌≡◌, ◌<◌, ◌&&◌, refl, subst, ℕ, Bool, true, false, List, Option, None, Some, bytes_eq}
 use Rattle.std.specs.Prelude.{All, Contains, IfOk, IsTrue, find}
 use Rattle.std.proofs.lemmas.List.Elements.{All-contains}
-use Rattle.mz_bag.specs.declared.datum.Datum.{Datum}
+use Rattle.mz_value.specs.declared.datum.Datum.{Datum}
 use Rattle.mz_statement.specs.declared.condition.Test.{Test}
 use Rattle.mz_statement.specs.declared.query.Select.{Select}
 use Rattle.mz_statement.specs.declared.statement.Statement.TheVariants as statement
@@ -10,13 +10,15 @@ use Rattle.mz_plan.specs.declared.item.Item.{Item}
 use Rattle.mz_plan.specs.declared.item.ItemKind.{ItemKind}
 use Rattle.mz_plan.specs.declared.item.ItemKind.TheVariants.{Table, View, Index}
 use Rattle.mz_plan.specs.declared.plan.Plan as plan
-use Rattle.mz_plan.specs.declared.refusal.Refusal.{Refusal}
+use Rattle.mz_refusal.specs.declared.refusal.Refusal.{Refusal}
 use Rattle.mz_plan.specs.declared.resolved.Resolved.TheVariants as resolved
 use Rattle.mz_plan.specs.declared.scope.Scope.{Scope}
-use Rattle.mz_log.specs.Conditions.{condition}
-use Rattle.mz_log.specs.Resolution.{dropped, first_misfit, is_table, item_in, item_of, named, newest_first, query_in, resolution, table_columns, table_view}
-use Rattle.mz_log.specs.Steps.{unless}
-use Rattle.mz_resolve_laws.specs.OfScope.{AllBelow, AllLeaves, AsksOfScope, ChangesOfScope, HasItem, IndexesOfScope, IsOfScope, NamesBelow, is_called, is_index_in, is_readable}
+use Rattle.mz_resolution.specs.Conditions.{condition}
+use Rattle.mz_plan.specs.Items.{is_table}
+use Rattle.mz_resolution.specs.Resolution.{dropped, first_misfit, item_in, item_of, named, newest_first, query_in, resolution, table_columns, table_sight}
+use Rattle.mz_resolution.specs.Steps.{unless}
+use Rattle.mz_plan.specs.Leaves.{AllBelow, AllLeaves}
+use Rattle.mz_resolve_laws.specs.OfScope.{AsksOfScope, ChangesOfScope, HasItem, IndexesOfScope, IsOfScope, NamesBelow, is_called, is_index_in, is_readable}
 use Rattle.mz_resolve_laws.proofs.ScopeLeaves.{IsNamed, all_there, found_passes, named_fits, newest_there, query_fits}
 use Rattle.mz_resolve_laws.proofs.StepTools.{any_then_ok, guard_ok, then_ok}
 
@@ -96,13 +98,13 @@ delete_fits scope name test =
     then_ok (item_in scope name) _ (IsCalled scope name) (ChangesOfScope scope is_table name) (item_in_fits scope name) (λ item here.
     then_ok (table_columns name item.kind) _ (λ columns. is_table item.kind ≡ true) (ChangesOfScope scope is_table name)
     (table_ok name item.kind) (λ columns table.
-    any_then_ok (condition (table_view name columns) test) _ (ChangesOfScope scope is_table name)
+    any_then_ok (condition (table_sight name columns) test) _ (ChangesOfScope scope is_table name)
     (λ cond _. of_kind scope is_table name item here table)))
 
 -- ---- numbers
 
 -- leaves that are as they have to be are so where less is wanted
-leaves_weaker : (t i u j : ℕ → Type 0) → ((n : ℕ) → t n → u n) → ((n : ℕ) → i n → j n) → (plan : plan.Plan) → AllLeaves t i plan
+pub leaves_weaker : (t i u j : ℕ → Type 0) → ((n : ℕ) → t n → u n) → ((n : ℕ) → i n → j n) → (plan : plan.Plan) → AllLeaves t i plan
     → AllLeaves u j plan
 leaves_weaker t i u j f g (plan.Table item) h = f item h
 leaves_weaker t i u j f g (plan.Index item) h = g item h

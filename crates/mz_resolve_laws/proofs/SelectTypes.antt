@@ -12,14 +12,17 @@ use Rattle.mz_statement.specs.declared.reference.Reference.{Reference}
 use Rattle.mz_plan.specs.declared.condition.Cond.{Cond}
 use Rattle.mz_plan.specs.declared.item.Item.{Item}
 use Rattle.mz_plan.specs.declared.plan.Plan.{Plan, Union}
-use Rattle.mz_log.specs.declared.relation.Referred.{Referred}
-use Rattle.mz_log.specs.declared.relation.Relation.{Relation}
-use Rattle.mz_log.specs.Columns.{SeenColumn, View, meant, view_of}
-use Rattle.mz_log.specs.Conditions.{condition, equalities, same_type}
-use Rattle.mz_log.specs.Listings.{has_aggregate, has_group, keys_of, listing}
-use Rattle.mz_log.specs.Queries.{Names, distinct_plan, filtered_plan, grouped_plan, joined_plan, place_meant, projected_plan, queried, referred, same_types, select_of, select_over, selected, united}
-use Rattle.mz_log.specs.Steps.{each}
-use Rattle.mz_resolve_laws.specs.WellFormed.{IsTypedRelation, PlacesFit, SomeCondFits, types_of}
+use Rattle.mz_resolution.specs.declared.relation.Referred.{Referred}
+use Rattle.mz_resolution.specs.declared.relation.Relation.{Relation}
+use Rattle.mz_resolution.specs.Columns.{SeenColumn, Sight, meant, sight_of}
+use Rattle.mz_plan.specs.Types.{same_type}
+use Rattle.mz_resolution.specs.Conditions.{condition, equalities}
+use Rattle.mz_resolution.specs.Listings.{has_aggregate, has_group, keys_of, listing}
+use Rattle.mz_resolution.specs.Queries.{Names, distinct_plan, filtered_plan, grouped_plan, joined_plan, place_meant, projected_plan, queried, referred, same_types, select_of, select_over, selected, united}
+use Rattle.mz_resolution.specs.Steps.{each}
+use Rattle.mz_plan.specs.Types.{types_of}
+use Rattle.mz_plan.specs.WellFormed.{PlacesFit, SomeCondFits}
+use Rattle.mz_resolve_laws.specs.WellFormed.{IsTypedRelation}
 use Rattle.mz_resolve_laws.proofs.CondTypes.{SeesTyped, condition_ok, meant_ok, same_type_same}
 use Rattle.mz_resolve_laws.proofs.FormRules.{form_of_distinct, form_of_filter, form_of_union, types_of_distinct, types_of_filter, types_of_union}
 use Rattle.mz_resolve_laws.proofs.JoinTypes.{AreEqualities, IsSeenAt, IsSeenFrom, IsTypedPlan, columns_seen, equalities_ok, joined_typed, row_types, seen_from_typed, star_types}
@@ -49,12 +52,12 @@ distinct_typed items row plan h true =
 -- ---- keys
 
 -- the places of names
-places_ok : (row : List ColumnType) (view : View) → Each (SeesTyped row) view.columns → (names : List ColumnName)
-    → IfOk (each (place_meant view) names) (PlacesFit row)
-places_ok row view h names = each_ok (place_meant view) (λ place. place < length row) one names
+places_ok : (row : List ColumnType) (sight : Sight) → Each (SeesTyped row) sight.columns → (names : List ColumnName)
+    → IfOk (each (place_meant sight) names) (PlacesFit row)
+places_ok row sight h names = each_ok (place_meant sight) (λ place. place < length row) one names
   where
-    one : (column : ColumnName) → IfOk (place_meant view column) (λ place. place < length row)
-    one column = then_ok (meant view column) _ (SeesTyped row) (λ place. place < length row) (meant_ok (SeesTyped row) view h column)
+    one : (column : ColumnName) → IfOk (place_meant sight column) (λ place. place < length row)
+    one column = then_ok (meant sight column) _ (SeesTyped row) (λ place. place < length row) (meant_ok (SeesTyped row) sight h column)
         (λ seen here. slice_get_within row seen.place seen.kind here)
 
 -- the keys are among them
@@ -88,18 +91,18 @@ first_seen first others seen (inr h) =
     inr (subst (λ n. IsSeenFrom n 1 others seen) long h)
 
 -- each column that is seen has its type in the row of all
-row_seen : (references : List Referred) → Each (SeesTyped (row_types references)) (view_of references).columns
+row_seen : (references : List Referred) → Each (SeesTyped (row_types references)) (sight_of references).columns
 row_seen references = each_weaker (IsSeenFrom 0 0 references) (SeesTyped (row_types references)) (seen_from_typed [] 0 0 refl references) _
     (columns_seen 0 0 references)
 
 -- the items of a select over a plan of all columns that are seen
 row_listing : (items : List Item) (references : List Referred) (plan : Plan) → IsTypedPlan items (row_types references) plan
     → (select : Select) (places : List ℕ) → PlacesFit (row_types references) places
-    → IfOk (listing (view_of references) (keys_of select places) select.items)
+    → IfOk (listing (sight_of references) (keys_of select places) select.items)
     (λ found. IsTypedPlan items (types_of found.columns) (projected_plan found.places
     (grouped_plan (keys_of select places) found.aggregates plan)))
 row_listing items references plan h select places fit =
-    listing_ok items plan (view_of references) h.formed (subst (λ row. Each (SeesTyped row) (view_of references).columns) (sym h.types)
+    listing_ok items plan (sight_of references) h.formed (subst (λ row. Each (SeesTyped row) (sight_of references).columns) (sym h.types)
     (row_seen references))
     (star_types 0 0 references ∙ sym h.types) (keys_of select places)
     (subst (λ row. KeysFit row (keys_of select places)) (sym h.types) (keys_fit (row_types references) select places fit))
@@ -108,15 +111,15 @@ row_listing items references plan h select places fit =
 -- a select over its references
 over_typed : (items : List Item) (first : Referred) (others : List Referred) (select : Select) → IsTypedRelation items first.relation
     → Each (λ r. IsTypedRelation items r.relation) others
-    → length others ≡ length select.joins → IfOk (select_over (view_of (first ∷ others)) first others select) (IsTypedRelation items)
+    → length others ≡ length select.joins → IfOk (select_over (sight_of (first ∷ others)) first others select) (IsTypedRelation items)
 over_typed items first others select h rest many =
-    then_ok (equalities view 1 select.joins) _ (AreEqualities sees 1 (length select.joins)) (IsTypedRelation items)
-    (equalities_ok sees view (columns_seen 0 0 references) 1 select.joins) (λ pairs are.
-    then_ok (condition view select.test) _ (SomeCondFits row) (IsTypedRelation items)
-    (condition_ok row view (row_seen references) select.test) (λ cond fits.
-    then_ok (each (place_meant view) select.group) _ (PlacesFit row) (IsTypedRelation items)
-    (places_ok row view (row_seen references) select.group) (λ places there.
-    then_ok (listing view (keys_of select places) select.items) _
+    then_ok (equalities sight 1 select.joins) _ (AreEqualities sees 1 (length select.joins)) (IsTypedRelation items)
+    (equalities_ok sees sight (columns_seen 0 0 references) 1 select.joins) (λ pairs are.
+    then_ok (condition sight select.test) _ (SomeCondFits row) (IsTypedRelation items)
+    (condition_ok row sight (row_seen references) select.test) (λ cond fits.
+    then_ok (each (place_meant sight) select.group) _ (PlacesFit row) (IsTypedRelation items)
+    (places_ok row sight (row_seen references) select.group) (λ places there.
+    then_ok (listing sight (keys_of select places) select.items) _
     (λ found. IsTypedPlan items (types_of found.columns) (projected_plan found.places
     (grouped_plan (keys_of select places) found.aggregates (below pairs cond)))) (IsTypedRelation items)
     (row_listing items references (below pairs cond) (below_typed pairs are cond fits) select places there) (λ found typed.
@@ -126,8 +129,8 @@ over_typed items first others select h rest many =
     references : List Referred
     references = first ∷ others
 
-    view : View
-    view = view_of (first ∷ others)
+    sight : Sight
+    sight = sight_of (first ∷ others)
 
     row : List ColumnType
     row = row_types (first ∷ others)

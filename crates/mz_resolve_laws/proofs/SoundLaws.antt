@@ -7,15 +7,15 @@ use Rattle.mz_statement.specs.declared.column.Column.{Column}
 use Rattle.mz_statement.specs.declared.query.Select.{Select}
 use Rattle.mz_statement.specs.declared.statement.Statement.TheVariants as statement
 use Rattle.mz_plan.specs.declared.item.Item.{Item}
-use Rattle.mz_plan.specs.declared.refusal.Refusal.{Refusal}
+use Rattle.mz_refusal.specs.declared.refusal.Refusal.{Refusal}
 use Rattle.mz_plan.specs.declared.scope.Scope.{Scope}
-use Rattle.mz_log.specs.declared.relation.Relation.{Relation}
-use Rattle.mz_log.specs.Queries.{queried}
-use Rattle.mz_log.specs.Resolution.{named, newest_first, query_in, resolution}
+use Rattle.mz_resolution.specs.declared.relation.Relation.{Relation}
+use Rattle.mz_resolution.specs.Queries.{queried}
+use Rattle.mz_resolution.specs.Resolution.{named, newest_first, query_in, resolution}
 use Rattle.mz_resolve_laws.specs.Alike.{AreAlike, GivesAlike}
 use Rattle.mz_resolve_laws.specs.Growth.{IsMadeBy, IsNewIn, in_cluster, with_item}
 use Rattle.mz_resolve_laws.specs.Sound.{IsSound, ViewFits, ViewsFit, names_among}
-use Rattle.mz_resolve_laws.specs.WellFormed.{types_of}
+use Rattle.mz_plan.specs.Types.{types_of}
 use Rattle.mz_resolve_laws.proofs.NamesFollow.{query_alike, views_stay_all}
 use Rattle.mz_resolve_laws.proofs.StepTools.{any_then_ok, guard_ok}
 

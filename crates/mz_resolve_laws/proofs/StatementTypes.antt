@@ -3,7 +3,7 @@ use Rattle.std.proofs.Common.{◌≡◌, ◌∙◌, ◌+◌, ◌==◌, refl, sym
 use Rattle.std.specs.Prelude.{IfOk}
 use Rattle.std.specs.List.{AllByRecursion as Each}
 use Rattle.std.proofs.lemmas.Bool.{eqb-true}
-use Rattle.mz_bag.specs.declared.datum.Datum.{Datum}
+use Rattle.mz_value.specs.declared.datum.Datum.{Datum}
 use Rattle.mz_statement.specs.declared.column.Column.{Column}
 use Rattle.mz_statement.specs.declared.column.ColumnType.{ColumnType}
 use Rattle.mz_statement.specs.declared.condition.Test.{Test}
@@ -13,17 +13,20 @@ use Rattle.mz_plan.specs.Typed.{own_columns, relation_columns}
 use Rattle.mz_plan.specs.declared.item.Item.{Item}
 use Rattle.mz_plan.specs.declared.item.ItemKind.{ItemKind}
 use Rattle.mz_plan.specs.declared.item.ItemKind.TheVariants.{Table, View, Index}
-use Rattle.mz_plan.specs.declared.refusal.Refusal.{Refusal}
-use Rattle.mz_plan.specs.declared.refusal.Refusal.TheVariants.{WrongType}
+use Rattle.mz_refusal.specs.declared.refusal.Refusal.{Refusal}
+use Rattle.mz_refusal.specs.declared.refusal.Refusal.TheVariants.{WrongType}
 use Rattle.mz_plan.specs.declared.resolved.Resolved.TheVariants as resolved
 use Rattle.mz_plan.specs.declared.scope.Scope.{Scope}
-use Rattle.mz_catalog.specs.CatalogState.{Ascend}
-use Rattle.mz_log.specs.Columns.{SeenColumn, columns_of}
-use Rattle.mz_log.specs.Conditions.{condition, same_type, type_of}
-use Rattle.mz_log.specs.Resolution.{first_misfit, first_of, item_in, misfit, misplaced, named, newest_first, query_in, resolution, table_columns, table_view}
-use Rattle.mz_log.specs.Steps.{unless}
+use Rattle.mz_plan.specs.Items.{Ascend}
+use Rattle.mz_resolution.specs.Columns.{SeenColumn, columns_of}
+use Rattle.mz_plan.specs.Types.{same_type, type_of}
+use Rattle.mz_resolution.specs.Conditions.{condition}
+use Rattle.mz_resolution.specs.Resolution.{first_misfit, first_of, item_in, misfit, misplaced, named, newest_first, query_in, resolution, table_columns, table_sight}
+use Rattle.mz_resolution.specs.Steps.{unless}
 use Rattle.mz_resolve_laws.specs.Sound.{IsSound}
-use Rattle.mz_resolve_laws.specs.WellFormed.{AsksWell, DeletesWell, IndexesWell, InsertsWell, IsTyped, IsTypedRelation, SomeCondFits, types_of}
+use Rattle.mz_plan.specs.Types.{types_of}
+use Rattle.mz_plan.specs.WellFormed.{IsTyped, SomeCondFits}
+use Rattle.mz_resolve_laws.specs.WellFormed.{AsksWell, DeletesWell, IndexesWell, InsertsWell, IsTypedRelation}
 use Rattle.mz_resolve_laws.proofs.CondTypes.{SeesTyped, condition_ok, same_type_same}
 use Rattle.mz_resolve_laws.proofs.JoinTypes.{IsSeenIn, columns_of_seen}
 use Rattle.mz_resolve_laws.proofs.NameTypes.{IsTypedItem, name_typed, own_of, query_typed}
@@ -126,6 +129,6 @@ deletes_well scope up name test =
     then_ok (item_in scope name) _ (IsCalled scope name) (DeletesWell scope.items) (item_in_fits scope name) (λ item here.
     then_ok (table_columns name item.kind) _ (λ columns. columns ≡ own_columns item.kind) (DeletesWell scope.items)
     (table_own name item.kind) (λ columns own.
-    then_ok (condition (table_view name columns) test) _ (SomeCondFits (types_of columns)) (DeletesWell scope.items)
-    (condition_ok (types_of columns) (table_view name columns) (table_seen name columns) test)
+    then_ok (condition (table_sight name columns) test) _ (SomeCondFits (types_of columns)) (DeletesWell scope.items)
+    (condition_ok (types_of columns) (table_sight name columns) (table_seen name columns) test)
     (λ cond fits. subst (λ cs. SomeCondFits (types_of cs) cond) (own ∙ sym (own_of scope.items up item here.there)) fits)))

@@ -2,8 +2,8 @@
 use Rattle.std.proofs.Common.{◌≡◌, refl, ap, suc, length, Bool, true, false, cond, List, [], ◌∷◌, Result, Ok, Err}
 use Rattle.std.specs.Prelude.{IfOk}
 use Rattle.std.specs.List.{AllByRecursion as Each}
-use Rattle.mz_plan.specs.declared.refusal.Refusal.{Refusal}
-use Rattle.mz_log.specs.Steps.{Step, ◌>>=◌, each}
+use Rattle.mz_refusal.specs.declared.refusal.Refusal.{Refusal}
+use Rattle.mz_resolution.specs.Steps.{Step, ◌>>=◌, each}
 
 -- a step and the one behind it
 pub then_ok : {A B : Type 0} (r : Result A Refusal) (next : A → Step B) (P : A → Type 0) (Q : B → Type 0) → IfOk r P
@@ -51,3 +51,8 @@ each_many_ok step P h (x ∷ xs) =
     then_ok (each step xs) _ (λ ys. Each P ys × (length ys ≡ length xs)) (λ ys. Each P ys × (length ys ≡ length (x ∷ xs)))
     (each_many_ok step P h xs)
     (λ others there. ((here, there.0), ap suc there.1)))
+
+-- what follows from what holds
+pub weaker_ok : {A : Type 0} (r : Result A Refusal) (P Q : A → Type 0) → IfOk r P → ((x : A) → P x → Q x) → IfOk r Q
+weaker_ok (Ok x) P Q h f = f x h
+weaker_ok (Err refusal) P Q h f = tt

@@ -1,10 +1,10 @@
 -- Places in lists: what is at a place of two lists side by side.
-use Rattle.std.proofs.Common.{◌≡◌, ◌∙◌, ◌+◌, ◌<◌, refl, sym, subst, ap, ℕ, zero, suc, Bool, true, false, cond, List, [], ◌∷◌, ◌++◌, length, Option, None, Some, slice_get, find, arith, ltb}
+use Rattle.std.proofs.Common.{◌≡◌, ◌∙◌, ◌+◌, ◌<◌, refl, sym, subst, ap, ℕ, zero, suc, Bool, true, false, cond, List, [], ◌∷◌, ◌++◌, length, Option, None, Some, slice_get, filter, find, arith, ltb}
 use Rattle.std.specs.List.{AllByRecursion as Each, filter_map, cons_option, position, position_or_len}
 use Rattle.std.proofs.lemmas.List.Folds.{find_at}
 use Rattle.std.proofs.lemmas.Bool.{ltb-true}
 
--- ---- each of two lists
+-- ---- each member
 
 -- what holds of each of both
 pub each_append : {X : Type 0} (P : X → Type 0) (xs ys : List X) → Each P xs → Each P ys → Each P (xs ++ ys)
@@ -15,6 +15,20 @@ each_append P (x ∷ xs) ys h k = (h.0, each_append P xs ys h.1 k)
 pub each_weaker : {X : Type 0} (P Q : X → Type 0) → ((x : X) → P x → Q x) → (xs : List X) → Each P xs → Each Q xs
 each_weaker P Q f [] h = tt
 each_weaker P Q f (x ∷ xs) h = (f x h.0, each_weaker P Q f xs h.1)
+
+-- what follows of each from two things that hold of each
+pub each_from : {X : Type 0} (P Q R : X → Type 0) → ((x : X) → P x → Q x → R x) → (xs : List X) → Each P xs → Each Q xs → Each R xs
+each_from P Q R f [] h k = tt
+each_from P Q R f (x ∷ xs) h k = (f x h.0 k.0, each_from P Q R f xs h.1 k.1)
+
+-- what holds of each holds of each that is kept
+pub each_filter : {X : Type 0} (P : X → Type 0) (keep : X → Bool) (xs : List X) → Each P xs → Each P (filter keep xs)
+each_filter P keep [] h = tt
+each_filter P keep (x ∷ xs) h = by (keep x) (each_filter P keep xs h.1)
+  where
+    by : (c : Bool) → Each P (filter keep xs) → Each P (cond c (x ∷ filter keep xs) (filter keep xs))
+    by true later = (h.0, later)
+    by false later = later
 
 -- ---- places
 

@@ -1,7 +1,7 @@
 -- When names stand for relations that differ in their plans alone.
 use Rattle.std.specs.Prelude.{◌≡◌, Ok, Err}
-use Rattle.mz_log.specs.declared.relation.Relation.{Relation}
-use Rattle.mz_log.specs.Steps.{Step}
+use Rattle.mz_resolution.specs.declared.relation.Relation.{Relation}
+use Rattle.mz_resolution.specs.Steps.{Step}
 
 -- two steps give what is related, or meet one refusal
 abbrev pub GivesAlike : {A : Type 0} → (A → A → Type 0) → Step A → Step A → Type 0

@@ -5,8 +5,7 @@ use Rattle.mz_plan.specs.declared.item.ItemKind.TheVariants.{Table, View, Index}
 use Rattle.mz_plan.specs.declared.resolved.Resolved.{Resolved}
 use Rattle.mz_plan.specs.declared.resolved.Resolved.TheVariants as resolved
 use Rattle.mz_plan.specs.declared.scope.Scope.{Scope}
-use Rattle.mz_catalog.specs.CatalogState.{others}
-use Rattle.mz_log.specs.Resolution.{is_index}
+use Rattle.mz_plan.specs.Items.{others, is_index}
 
 -- an item is of the kind that a CREATE makes
 abbrev pub IsMadeBy : Resolved → Item → Type 0

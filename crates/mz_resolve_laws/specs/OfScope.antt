@@ -1,25 +1,13 @@
 -- When what a resolved statement names is of its scope.
 use Rattle.std.specs.Prelude.{◌≡◌, ◌==◌, ◌<◌, Bool, ◌&&◌, ◌||◌, ℕ, List, Contains, IsTrue, bytes_eq}
+use Rattle.mz_plan.specs.Leaves.{AllLeaves, AllBelow}
 use Rattle.mz_plan.specs.declared.item.Item.{Item}
 use Rattle.mz_plan.specs.declared.item.ItemKind.{ItemKind}
-use Rattle.mz_plan.specs.declared.plan.Plan.{Plan, Table, Index, Filter', Project', Join', Union', Group', Distinct', more_of-Plan, end_of-Plan}
+use Rattle.mz_plan.specs.declared.plan.Plan.{Plan}
 use Rattle.mz_plan.specs.declared.resolved.Resolved.{Resolved}
 use Rattle.mz_plan.specs.declared.resolved.Resolved.TheVariants as resolved
 use Rattle.mz_plan.specs.declared.scope.Scope.{Scope}
-use Rattle.mz_log.specs.Resolution.{is_index, is_table, is_view}
-
--- each leaf of a plan is as it has to be: the numbers of tables as the first says, and those of indexes as the second does
-abbrev pub AllLeaves : (ℕ → Type 0) → (ℕ → Type 0) → Plan → Type 0
-AllLeaves of_table of_index (Table item) = of_table item
-AllLeaves of_table of_index (Index item) = of_index item
-AllLeaves of_table of_index (Filter' s (more_of-Plan plan end_of-Plan) cond) = AllLeaves of_table of_index plan
-AllLeaves of_table of_index (Project' s (more_of-Plan plan end_of-Plan) places) = AllLeaves of_table of_index plan
-AllLeaves of_table of_index (Join' s (more_of-Plan left end_of-Plan) r (more_of-Plan right end_of-Plan) pairs) =
-    AllLeaves of_table of_index left × AllLeaves of_table of_index right
-AllLeaves of_table of_index (Union' s (more_of-Plan left end_of-Plan) r (more_of-Plan right end_of-Plan)) =
-    AllLeaves of_table of_index left × AllLeaves of_table of_index right
-AllLeaves of_table of_index (Group' s (more_of-Plan plan end_of-Plan) places aggregates) = AllLeaves of_table of_index plan
-AllLeaves of_table of_index (Distinct' s (more_of-Plan plan end_of-Plan)) = AllLeaves of_table of_index plan
+use Rattle.mz_plan.specs.Items.{is_index, is_table, is_view}
 
 -- an item of the scope that passes the test has this number
 pub record HasItem (scope : Scope) (test : Item → Bool) (number : ℕ) : Type 0 where
@@ -66,10 +54,6 @@ ChangesOfScope scope is_kind name (resolved.Drop item) = HasItem scope (is_calle
 ChangesOfScope scope is_kind name (resolved.Insert item rows) = HasItem scope (is_called is_kind name) item
 ChangesOfScope scope is_kind name (resolved.Delete item cond) = HasItem scope (is_called is_kind name) item
 ChangesOfScope scope is_kind name other = ⊥
-
--- each leaf of a plan is below a number
-abbrev pub AllBelow : ℕ → Plan → Type 0
-AllBelow limit plan = AllLeaves (λ item. item < limit) (λ item. item < limit) plan
 
 -- each leaf of the plan that a query or a CREATE INDEX asks for is below a number, and so is what the index is on
 abbrev pub NamesBelow : ℕ → Resolved → Type 0

@@ -4,10 +4,10 @@ use Rattle.mz_plan.specs.declared.item.Item.{Item}
 use Rattle.mz_plan.specs.declared.item.ItemKind.{ItemKind}
 use Rattle.mz_plan.specs.declared.item.ItemKind.TheVariants.{View}
 use Rattle.mz_plan.specs.declared.scope.Scope.{Scope}
-use Rattle.mz_catalog.specs.CatalogState.{Ascend}
-use Rattle.mz_log.specs.Queries.{Names, queried}
-use Rattle.mz_log.specs.Resolution.{named, newest_first, query_of, without_number}
-use Rattle.mz_resolve_laws.specs.WellFormed.{types_of}
+use Rattle.mz_plan.specs.Items.{Ascend, query_of}
+use Rattle.mz_resolution.specs.Queries.{Names, queried}
+use Rattle.mz_resolution.specs.Resolution.{named, newest_first, without_number}
+use Rattle.mz_plan.specs.Types.{types_of}
 
 -- what names stand for among some items of a scope, the newest first
 abbrev pub names_among : Scope → List Item → Names

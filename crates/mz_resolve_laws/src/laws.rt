@@ -1,7 +1,8 @@
 //! What holds of the definition of resolution: each law is the contract of a function that does nothing.
 //! The commands of a catalog and the dataflows of replicas rest on these.
 ghost use Rattle.std.specs.Prelude.{◌≡◌, ◌<◌, ◌≤◌, All, IfOk, List, [], ◌∷◌, Ok, Option, ℕ, false, length};
-ghost use Rattle.mz_bag.specs.declared.datum.Datum.{Datum};
+ghost use Rattle.mz_resolution.specs.Queries.{most_columns};
+ghost use Rattle.mz_value.specs.declared.datum.Datum.{Datum};
 ghost use Rattle.mz_statement.specs.declared.column.Column.{Column};
 ghost use Rattle.mz_statement.specs.declared.condition.Test.{Test};
 ghost use Rattle.mz_statement.specs.declared.query.Select.{Select};
@@ -9,14 +10,22 @@ ghost use Rattle.mz_statement.specs.declared.statement.Statement.{Statement};
 ghost use Rattle.mz_statement.specs.declared.statement.Statement.TheVariants as statement;
 ghost use Rattle.mz_plan.specs.declared.item.Item.{Item};
 ghost use Rattle.mz_plan.specs.declared.scope.Scope.{Scope};
-ghost use Rattle.mz_catalog.specs.CatalogState.{Ascend};
-ghost use Rattle.mz_catalog.specs.Dependents.{dependents, depends, names};
-ghost use Rattle.mz_log.specs.Resolution.{is_index, is_table, is_view, named, newest_first, query_in, resolution};
+ghost use Rattle.mz_plan.specs.Items.{Ascend, dependents, depends, names, is_index, is_table, is_view};
+ghost use Rattle.mz_resolution.specs.Resolution.{named, newest_first, query_in, resolution};
+ghost use Rattle.mz_plan.specs.Masses.{AreWithin};
+ghost use Rattle.mz_plan.specs.Meaning.{Leaves};
+ghost use Rattle.mz_plan.specs.RowTypes.{AreTyped};
+ghost use Rattle.mz_plan.specs.Small.{index_reads, most_rows, tables_read};
+ghost use Rattle.mz_plan.specs.Types.{types_of};
 ghost use Rattle.mz_resolve_laws.specs.Alike.{AreAlike, GivesAlike};
 ghost use Rattle.mz_resolve_laws.specs.Growth.{IsForeignIndex, IsMadeBy, IsNewIn, in_cluster, with_item, without_item};
+ghost use Rattle.mz_plan.specs.Indexes.{AreNewestFirst};
 ghost use Rattle.mz_resolve_laws.specs.OfScope.{AsksOfScope, ChangesOfScope, IndexesOfScope, NamesBelow};
 ghost use Rattle.mz_resolve_laws.specs.Sound.{IsSound};
+ghost use Rattle.mz_plan.specs.PlanTypes.{index_types};
+ghost use Rattle.mz_resolve_laws.specs.SoundOver.{IsNewAmong, IsSoundOver, Made, ReadsFew, made_with};
 ghost use Rattle.mz_resolve_laws.specs.Star.{narrow_named, select_star};
+ghost use Rattle.mz_resolve_laws.specs.TypedOver.{AsksBounded, AsksOver, IndexesOver, IsRelationOver, IsTypedOver, LeafTypes};
 ghost use Rattle.mz_resolve_laws.specs.WellFormed.{AsksWell, DeletesWell, IndexesWell, InsertsWell, IsTypedRelation};
 
 /// What a statement asks for is of its scope. The plan of a query or of an index names only tables of the
@@ -95,6 +104,102 @@ pub fn soundness_is_kept()
         → dependents number scope.items ≡ [] → IsSound (without_item number scope) }
 {}
 
+/// In a scope that is sound over the plans of all indexes ever made, the plan of a query reads at most as many
+/// tables as the query names, also through its indexes; and that of a query or of an index reads at most four.
+/// Takes no memory.
+pub fn plans_read_few_tables()
+    ensures relation { (plans : Made) (scope : Scope) → IsSoundOver plans scope → (query : List Select)
+        → IfOk (query_in scope query) (λ relation. tables_read (index_reads plans) relation.plan ≤ relation.tables) }
+    ensures query { (plans : Made) (scope : Scope) → IsSoundOver plans scope → (query : List Select) (as_of : Option ℕ)
+        → IfOk (resolution scope (statement.Query query as_of)) (ReadsFew plans) }
+    ensures index { (plans : Made) (scope : Scope) → IsSoundOver plans scope → (name on : List ℕ)
+        → IfOk (resolution scope (statement.CreateIndex name on)) (ReadsFew plans) }
+{}
+
+/// A scope with no items is sound over no plans, and a scope that is sound over plans is so in every cluster. It
+/// stays so with the item that a CREATE makes, whose number is above those of all items and of all indexes ever
+/// made, and without an item on which none depends. Takes no memory.
+pub fn soundness_over_plans_is_kept()
+    ensures none { (cluster : ℕ) → IsSoundOver [] (record { items = []; cluster = cluster }) }
+    ensures cluster { (plans : Made) (scope : Scope) (cluster : ℕ) → IsSoundOver plans scope
+        → IsSoundOver plans (in_cluster cluster scope) }
+    ensures table { (plans : Made) (scope : Scope) → IsSoundOver plans scope
+        → (item : Item) → IsNewIn scope item → IsNewAmong plans item.id → (name : List ℕ) (columns : List Column)
+        → IfOk (resolution scope (statement.CreateTable name columns))
+        (λ done. IsMadeBy done item → IsSoundOver (made_with item.id item.kind plans) (with_item scope item)) }
+    ensures view { (plans : Made) (scope : Scope) → IsSoundOver plans scope
+        → (item : Item) → IsNewIn scope item → IsNewAmong plans item.id → (name : List ℕ) (query : List Select)
+        → IfOk (resolution scope (statement.CreateView name query))
+        (λ done. IsMadeBy done item → IsSoundOver (made_with item.id item.kind plans) (with_item scope item)) }
+    ensures index { (plans : Made) (scope : Scope) → IsSoundOver plans scope
+        → (item : Item) → IsNewIn scope item → IsNewAmong plans item.id → (name on : List ℕ)
+        → IfOk (resolution scope (statement.CreateIndex name on))
+        (λ done. IsMadeBy done item → IsSoundOver (made_with item.id item.kind plans) (with_item scope item)) }
+    ensures drop { (plans : Made) (scope : Scope) → IsSoundOver plans scope → (number : ℕ)
+        → dependents number scope.items ≡ [] → IsSoundOver plans (without_item number scope) }
+{}
+
+/// Over the types of all tables and the plans of all indexes ever made, the plan of a query or of an index is well
+/// formed, and gives columns of the types that the query, or what the index is on, is said to have. An index that
+/// was dropped has its types still. Takes no memory.
+pub fn plans_have_types()
+    ensures relation { (tables : LeafTypes) (plans : Made) (scope : Scope) → IsSound scope
+        → IsTypedOver tables plans scope → (query : List Select)
+        → IfOk (query_in scope query) (IsRelationOver tables (index_types tables plans)) }
+    ensures query { (tables : LeafTypes) (plans : Made) (scope : Scope) → IsSound scope
+        → IsTypedOver tables plans scope → (query : List Select) (as_of : Option ℕ)
+        → IfOk (resolution scope (statement.Query query as_of)) (AsksOver tables (index_types tables plans)) }
+    ensures index { (tables : LeafTypes) (plans : Made) (scope : Scope) → IsSound scope
+        → IsTypedOver tables plans scope → (name on : List ℕ)
+        → IfOk (resolution scope (statement.CreateIndex name on))
+        (IndexesOver tables (index_types tables plans) scope) }
+{}
+
+/// In a scope that is sound and typed over the plans of all indexes ever made, the plan of a query or of an index is
+/// bounded over them, where no table has more rows than a table may have, and all of its types. Takes no memory.
+pub fn resolved_plans_are_bounded()
+    ensures query { (tables : LeafTypes) (plans : Made) (scope : Scope) → IsSoundOver plans scope
+        → IsTypedOver tables plans scope
+        → (rows : Leaves) → AreWithin most_rows rows → AreTyped tables rows
+        → (query : List Select) (as_of : Option ℕ)
+        → IfOk (resolution scope (statement.Query query as_of)) (AsksBounded rows plans) }
+    ensures index { (tables : LeafTypes) (plans : Made) (scope : Scope) → IsSoundOver plans scope
+        → IsTypedOver tables plans scope
+        → (rows : Leaves) → AreWithin most_rows rows → AreTyped tables rows
+        → (name on : List ℕ)
+        → IfOk (resolution scope (statement.CreateIndex name on)) (AsksBounded rows plans) }
+{}
+
+/// With no items a scope has types over those of any tables and no plans. A scope with types has them in every
+/// cluster, with the item that a CREATE makes, whose number is new (that of a table has the types of its columns),
+/// and without an item on which none depends. The types of numbers that nothing has yet change nothing.
+/// Takes no memory.
+pub fn types_are_kept()
+    ensures none { (tables : LeafTypes) (cluster : ℕ) → IsTypedOver tables [] (record { items = []; cluster = cluster }) }
+    ensures cluster { (tables : LeafTypes) (plans : Made) (scope : Scope) (cluster : ℕ)
+        → IsTypedOver tables plans scope → IsTypedOver tables plans (in_cluster cluster scope) }
+    ensures table { (tables : LeafTypes) (plans : Made) (scope : Scope) → IsTypedOver tables plans scope
+        → (item : Item) → IsNewIn scope item
+        → (name : List ℕ) (columns : List Column) → tables item.id ≡ types_of columns
+        → IfOk (resolution scope (statement.CreateTable name columns))
+        (λ done. IsMadeBy done item → IsTypedOver tables (made_with item.id item.kind plans) (with_item scope item)) }
+    ensures view { (tables : LeafTypes) (plans : Made) (scope : Scope) → IsTypedOver tables plans scope
+        → (item : Item) → IsNewIn scope item → (name : List ℕ) (query : List Select)
+        → IfOk (resolution scope (statement.CreateView name query))
+        (λ done. IsMadeBy done item → IsTypedOver tables (made_with item.id item.kind plans) (with_item scope item)) }
+    ensures index { (tables : LeafTypes) (plans : Made) (scope : Scope) → IsSound scope
+        → IsTypedOver tables plans scope
+        → (item : Item) → IsNewIn scope item → (name on : List ℕ)
+        → IfOk (resolution scope (statement.CreateIndex name on))
+        (λ done. IsMadeBy done item → IsTypedOver tables (made_with item.id item.kind plans) (with_item scope item)) }
+    ensures drop { (tables : LeafTypes) (plans : Made) (scope : Scope) → Ascend scope.items
+        → IsTypedOver tables plans scope → (number : ℕ)
+        → dependents number scope.items ≡ [] → IsTypedOver tables plans (without_item number scope) }
+    ensures unused { (tables others : LeafTypes) (plans : Made) (scope : Scope) → AreNewestFirst plans
+        → IsTypedOver tables plans scope → (limit : ℕ) → All (λ item. item.id < limit) scope.items → IsNewAmong plans limit
+        → ((number : ℕ) → number < limit → tables number ≡ others number) → IsTypedOver others plans scope }
+{}
+
 /// In another cluster a query has the same columns and names as many tables, or meets the same refusal: the
 /// cluster changes plans alone. Takes no memory.
 pub fn clusters_change_plans_alone()
@@ -127,11 +232,11 @@ pub fn indexes_of_other_clusters_change_nothing()
 {}
 
 /// A table or a view stands for what `SELECT * FROM` it gives: the same columns, the same plan and the same
-/// number of tables, where it has at most 16 columns; and where it stands for nothing, the refusal is the
+/// number of tables, where it has no more columns than a result may have; and where it stands for nothing, the refusal is the
 /// same. Takes no memory.
 pub fn a_view_is_its_star()
     ensures relation { (scope : Scope) (name : List ℕ)
-        → IfOk (named scope (newest_first scope) name) (λ found. length found.relation.columns ≤ 16
+        → IfOk (named scope (newest_first scope) name) (λ found. length found.relation.columns ≤ most_columns
         → query_in scope (select_star name ∷ []) ≡ Ok found.relation) }
     ensures steps { (scope : Scope) (name : List ℕ) → query_in scope (select_star name ∷ []) ≡ narrow_named scope name }
 {}

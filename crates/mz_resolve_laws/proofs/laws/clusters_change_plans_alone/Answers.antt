@@ -1,4 +1,4 @@
-use Rattle.mz_log.specs.Resolution.{newest_first}
+use Rattle.mz_resolution.specs.Resolution.{newest_first}
 use Rattle.mz_resolve_laws.specs.Growth.{in_cluster}
 use Rattle.mz_resolve_laws.proofs.NamesFollow.{query_alike}
 use Rattle.mz_resolve_laws.proofs.laws.clusters_change_plans_alone.Goals as goal

@@ -1,6 +1,6 @@
 use Rattle.std.proofs.Common.{◌≡◌, ap}
 use Rattle.mz_plan.specs.declared.scope.Scope.{Scope}
-use Rattle.mz_log.specs.Resolution.{resolution}
+use Rattle.mz_resolution.specs.Resolution.{resolution}
 use Rattle.mz_resolve_laws.proofs.laws.items_tell_all.Goals as goal
 
 -- such scopes are one

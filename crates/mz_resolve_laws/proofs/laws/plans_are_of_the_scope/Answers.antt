@@ -1,4 +1,4 @@
-use Rattle.mz_log.specs.Resolution.{is_index, is_table, is_view}
+use Rattle.mz_plan.specs.Items.{is_index, is_table, is_view}
 use Rattle.mz_resolve_laws.proofs.ScopeStatements.{asks_fits, delete_fits, dropped_fits, indexes_fits, insert_fits}
 use Rattle.mz_resolve_laws.proofs.laws.plans_are_of_the_scope.Goals as goal
 
