@@ -1,10 +1,9 @@
 //! What no clause says: that calls succeed where there is memory, and a catalog worked by hand.
-ghost use Rattle.std.specs.Prelude.{◌≡◌, ◌+◌, ◌<◌, ◌≤◌, ◌^◌, IfOk};
 
-use crate::{Catalog, CatalogFault};
-use mz_bag::{Name, is_name};
+use mz_catalog::{Catalog, CatalogFault, MOST_ITEMS};
 use mz_plan::{Item, ItemKind, Plan};
 use mz_statement::Columns;
+use mz_value::{Name, is_name};
 use std::alloc::{AllocError, Global};
 use std::process::Abort;
 use std::test::Fail;
@@ -38,22 +37,12 @@ fn index(rt: &impl Abort, alloc: Global, text: &str, on: u64) -> Result<Item, Al
     })
 }
 
-// Adds an item to a catalog that has had few.
-fn add(catalog: &mut Catalog, item: Item) -> Result<u64, CatalogFault>
-    requires { catalog.old.next < 2 ^ 32 }
-    ensures { catalog.new.next ≤ catalog.old.next + 1 }
-{
-    catalog.add(item)
-}
-
 // Two tables, and an index on the first one.
-fn small(rt: &impl Abort, alloc: Global) -> Result<Catalog, CatalogFault>
-    ensures { IfOk result (λ catalog. catalog.next < 10) }
-{
+fn small(rt: &impl Abort, alloc: Global) -> Result<Catalog, CatalogFault> {
     let mut catalog = Catalog::empty(alloc);
-    add(&mut catalog, table(rt, alloc, "t")?)?;
-    add(&mut catalog, table(rt, alloc, "u")?)?;
-    add(&mut catalog, index(rt, alloc, "i", 1)?)?;
+    catalog.add(table(rt, alloc, "t")?)?;
+    catalog.add(table(rt, alloc, "u")?)?;
+    catalog.add(index(rt, alloc, "i", 1)?)?;
     Ok(catalog)
 }
 
@@ -71,9 +60,7 @@ fn removal(
     alloc: Global,
     catalog: &mut Catalog,
     text: &str,
-) -> Result<String, AllocError>
-    ensures { catalog.new.next ≡ catalog.old.next }
-{
+) -> Result<String, AllocError> {
     match catalog.find(&name(rt, alloc, text)?) {
         None => String::from_str(alloc, "unknown"),
         Some(id) => match catalog.remove(id) {
@@ -106,9 +93,9 @@ fn a_number_is_used_once(rt: HostRuntime) -> Result<(), Fail> {
     let alloc = rt.alloc();
     let mut catalog = small(&rt, alloc)?;
     removal(&rt, alloc, &mut catalog, "i")?;
-    let added = add(&mut catalog, index(&rt, alloc, "i", 1)?);
+    let added = catalog.add(index(&rt, alloc, "i", 1)?);
     assert_eq!(rt; addition(alloc, added)?.as_str(), "4");
-    let added = add(&mut catalog, table(&rt, alloc, "i")?);
+    let added = catalog.add(table(&rt, alloc, "i")?);
     assert_eq!(rt; addition(alloc, added)?.as_str(), "the name i is taken");
     Ok(())
 }
@@ -129,7 +116,7 @@ fn copies_are_apart(rt: HostRuntime) -> Result<(), Fail> {
 fn the_oldest_index_goes_before_the_next_one(rt: HostRuntime) -> Result<(), Fail> {
     let alloc = rt.alloc();
     let mut catalog = small(&rt, alloc)?;
-    add(&mut catalog, index(&rt, alloc, "k", 1)?)?;
+    catalog.add(index(&rt, alloc, "k", 1)?)?;
     assert_eq!(rt; catalog.oldest_index(1, 0), Some(3));
     removal(&rt, alloc, &mut catalog, "i")?;
     assert_eq!(rt; catalog.oldest_index(1, 0), Some(4));
@@ -138,14 +125,14 @@ fn the_oldest_index_goes_before_the_next_one(rt: HostRuntime) -> Result<(), Fail
 }
 
 #[test]
-fn there_are_at_most_1024_items(rt: HostRuntime) -> Result<(), Fail> {
+fn there_are_no_more_items_than_may_be(rt: HostRuntime) -> Result<(), Fail> {
     let alloc = rt.alloc();
     let mut catalog = Catalog::empty(alloc);
-    'items: for place in 0..1024u64 {
+    for place in 0..MOST_ITEMS {
         let text = format!(in alloc; "t{place}")?;
-        add(&mut catalog, table(&rt, alloc, text.as_str())?)?;
+        catalog.add(table(&rt, alloc, text.as_str())?)?;
     }
-    let added = add(&mut catalog, table(&rt, alloc, "t")?);
+    let added = catalog.add(table(&rt, alloc, "t")?);
     assert_eq!(rt; addition(alloc, added)?.as_str(), "there are 1024 items");
     assert_eq!(rt; catalog.find(&name(&rt, alloc, "t1023")?), Some(1024));
     Ok(())
