@@ -1,16 +1,1 @@
 pub mod Log
-pub mod Rounds
-pub mod Reads
-pub mod Sessions
-pub mod Sequential
-pub mod Tables
-pub mod Calls
-pub mod Submission
-pub mod Legal
-pub mod History
-pub mod Steps
-pub mod Columns
-pub mod Conditions
-pub mod Listings
-pub mod Queries
-pub mod Resolution

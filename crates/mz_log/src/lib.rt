@@ -1,10 +1,16 @@
-//! The log of a coordinator: the alphabet of what happens, and what every log determines.
-//! Promises nothing by code: its definitions (`specs/`) say what is read from a log, and when a log is legal and replays.
-//! Stands on `mz_bag`, `mz_time`, `mz_plan` and `mz_statement`; all crates that speak of what a coordinator did stand on it.
+//! The log of a coordinator: the alphabet of what happens, replies, and the members of the books that a log determines.
+//! Promises nothing by code: its types are those in which definitions and contracts speak of logs (`specs/Log.antt`).
+//! Stands on `mz_bag`, `mz_plan`, `mz_refusal`, `mz_statement`, `mz_time` and `mz_value`; what speaks of whole logs stands on it.
 #![tactic(auto)]
 
+mod capability;
 mod entry;
-mod relation;
+mod journal;
+mod reply;
+mod stream;
 
-pub use entry::{Answered, Entry, PendingRead, Reply};
-pub use relation::{Listed, Listing, NamedRelation, Referred, Relation};
+pub use capability::{Collection, CollectionKind, Hold, Numbers, Settled};
+pub use entry::{Entry, Replied};
+pub use journal::CallEntry;
+pub use reply::{FrontierRow, FrontierRows, Reply, SeqReply};
+pub use stream::{Commands, Report, Stream};
