@@ -1,12 +1,12 @@
 -- The calls of a log, each with its time and its reply.
 use Rattle.std.specs.Prelude.{ℕ, ◌==◌, ◌&&◌, List, [], ◌∷◌, ◌++◌, Bool, false, Option, None, Some, is_none, max, if◌then◌else◌}
 use Rattle.std.specs.Option.{option_map_or}
-use Rattle.mz_bag.specs.declared.statement.Statement.{Statement}
-use Rattle.mz_log.specs.declared.entry.Entry.TheVariants.{Queue, Apply, Read, Finish}
-use Rattle.mz_log.specs.declared.entry.Answered.{Answered}
-use Rattle.mz_log.specs.declared.entry.Reply.{Reply}
-use Rattle.mz_log.specs.declared.entry.Reply.TheVariants.{Rows}
-use Rattle.mz_log.specs.Log.{Log, is_reply_to}
+use Rattle.mz_kv_log.specs.declared.statement.Statement.{Statement}
+use Rattle.mz_kv_log.specs.declared.entry.Entry.TheVariants.{Queue, Apply, Read, Finish}
+use Rattle.mz_kv_log.specs.declared.entry.Answered.{Answered}
+use Rattle.mz_kv_log.specs.declared.entry.Reply.{Reply}
+use Rattle.mz_kv_log.specs.declared.entry.Reply.TheVariants.{Rows}
+use Rattle.mz_kv_log.specs.Log.{Log, is_reply_to}
 
 -- a call: the number of its session and its own there, its time, the statement, the peek that a read waits for, and the reply
 pub record Call : Type 0 where

@@ -1,11 +1,11 @@
 -- The history of a log, and that it replays on the sequential object.
 use Rattle.std.specs.Prelude.{◌≡◌, List, [], ◌∷◌, Option, None, Some, nat_le, if◌then◌else◌}
 use Rattle.mz_bag.specs.Weighted.{Weighted}
-use Rattle.mz_bag.specs.declared.statement.Statement.{Statement}
-use Rattle.mz_log.specs.declared.entry.Reply.{Reply}
-use Rattle.mz_log.specs.Log.{Log}
-use Rattle.mz_log.specs.Calls.{Call, calls}
-use Rattle.mz_log.specs.Sequential.{after_statement, reply_to}
+use Rattle.mz_kv_log.specs.declared.statement.Statement.{Statement}
+use Rattle.mz_kv_log.specs.declared.entry.Reply.{Reply}
+use Rattle.mz_kv_log.specs.Log.{Log}
+use Rattle.mz_kv_log.specs.Calls.{Call, calls}
+use Rattle.mz_kv_log.specs.Sequential.{after_statement, reply_to}
 
 -- the sorted calls with one more, which stands before those of its own time and of later times
 abbrev pub put : Call → List Call → List Call

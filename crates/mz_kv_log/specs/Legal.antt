@@ -4,17 +4,17 @@ use Rattle.std.specs.List.{list_any}
 use Rattle.std.specs.Str.{bytes_eq}
 use Rattle.std.specs.FinMap.{entries}
 use Rattle.mz_bag.specs.Weighted.{Weighted, bag_of}
-use Rattle.mz_log.specs.declared.entry.Entry.{Entry}
-use Rattle.mz_log.specs.declared.entry.Entry.TheVariants.{Opened, Queue, Begin, Apply, Read, Finish}
-use Rattle.mz_log.specs.declared.entry.Answered.{Answered}
-use Rattle.mz_log.specs.Log.{Log}
-use Rattle.mz_log.specs.Rounds.{Round, read_time, last_time, rounds, open_round}
-use Rattle.mz_log.specs.Sessions.{sessions}
-use Rattle.mz_log.specs.declared.entry.PendingRead.{PendingRead}
-use Rattle.mz_log.specs.Reads.{pending, pending_read}
-use Rattle.mz_log.specs.Sequential.{answers_to}
-use Rattle.mz_log.specs.Tables.{table_at}
-use Rattle.mz_log.specs.Submission.{outcome, Accepted}
+use Rattle.mz_kv_log.specs.declared.entry.Entry.{Entry}
+use Rattle.mz_kv_log.specs.declared.entry.Entry.TheVariants.{Opened, Queue, Begin, Apply, Read, Finish}
+use Rattle.mz_kv_log.specs.declared.entry.Answered.{Answered}
+use Rattle.mz_kv_log.specs.Log.{Log}
+use Rattle.mz_kv_log.specs.Rounds.{Round, read_time, last_time, rounds, open_round}
+use Rattle.mz_kv_log.specs.Sessions.{sessions}
+use Rattle.mz_kv_log.specs.declared.entry.PendingRead.{PendingRead}
+use Rattle.mz_kv_log.specs.Reads.{pending, pending_read}
+use Rattle.mz_kv_log.specs.Sequential.{answers_to}
+use Rattle.mz_kv_log.specs.Tables.{table_at}
+use Rattle.mz_kv_log.specs.Submission.{outcome, Accepted}
 
 -- how many sessions may be opened
 abbrev pub most_sessions : ℕ

@@ -1,8 +1,8 @@
 -- Reads: how many were accepted, and which still wait for their rows.
 use Rattle.std.specs.Prelude.{ℕ, ◌+◌, ◌==◌, List, [], ◌∷◌, ◌++◌, Option, find, if◌then◌else◌}
-use Rattle.mz_log.specs.declared.entry.Entry.TheVariants.{Read, Finish}
-use Rattle.mz_log.specs.declared.entry.PendingRead.{PendingRead}
-use Rattle.mz_log.specs.Log.{Log}
+use Rattle.mz_kv_log.specs.declared.entry.Entry.TheVariants.{Read, Finish}
+use Rattle.mz_kv_log.specs.declared.entry.PendingRead.{PendingRead}
+use Rattle.mz_kv_log.specs.Log.{Log}
 
 -- how many peeks were made; they are numbered from 1
 abbrev pub peeks : Log → ℕ

@@ -1,8 +1,8 @@
 -- Rounds and their times: which commands wait, which round is open, and up to which time a read may look.
 use Rattle.std.specs.Prelude.{ℕ, List, [], ◌∷◌, ◌++◌, Option, None, Some, if◌then◌else◌}
-use Rattle.mz_log.specs.declared.entry.Entry.TheVariants.{Queue, Begin, Apply}
-use Rattle.mz_log.specs.declared.entry.Answered.{Answered}
-use Rattle.mz_log.specs.Log.{Log, Command, is_reply_to}
+use Rattle.mz_kv_log.specs.declared.entry.Entry.TheVariants.{Queue, Begin, Apply}
+use Rattle.mz_kv_log.specs.declared.entry.Answered.{Answered}
+use Rattle.mz_kv_log.specs.Log.{Log, Command, is_reply_to}
 
 -- a round that was begun: its number, its time and the commands that it took
 pub record Round : Type 0 where

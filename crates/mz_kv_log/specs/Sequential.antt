@@ -1,13 +1,13 @@
 -- The sequential object: one table under one statement after another. What a log says is measured by it.
 use Rattle.std.specs.Prelude.{List, [], ◌∷◌, ◌++◌, length}
 use Rattle.std.specs.FinMap.{entries}
-use Rattle.mz_bag.specs.declared.statement.Statement.{Statement}
-use Rattle.mz_bag.specs.declared.statement.Statement.TheVariants.{Insert, Select}
+use Rattle.mz_kv_log.specs.declared.statement.Statement.{Statement}
+use Rattle.mz_kv_log.specs.declared.statement.Statement.TheVariants.{Insert, Select}
 use Rattle.mz_bag.specs.Weighted.{Weighted, bag_of, each_once}
-use Rattle.mz_log.specs.declared.entry.Answered.{Answered}
-use Rattle.mz_log.specs.declared.entry.Reply.{Reply}
-use Rattle.mz_log.specs.declared.entry.Reply.TheVariants.{Inserted, Rows}
-use Rattle.mz_log.specs.Log.{Command}
+use Rattle.mz_kv_log.specs.declared.entry.Answered.{Answered}
+use Rattle.mz_kv_log.specs.declared.entry.Reply.{Reply}
+use Rattle.mz_kv_log.specs.declared.entry.Reply.TheVariants.{Inserted, Rows}
+use Rattle.mz_kv_log.specs.Log.{Command}
 
 -- the table once the statement is done
 abbrev pub after_statement : Weighted → Statement → Weighted

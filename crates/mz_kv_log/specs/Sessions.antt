@@ -2,10 +2,10 @@
 use Rattle.std.specs.Prelude.{ℕ, ◌+◌, ◌==◌, List, [], ◌∷◌, ◌++◌, Bool, false, Option, None, Some, if◌then◌else◌}
 use Rattle.std.specs.List.{list_any}
 use Rattle.std.specs.Option.{option_map_or}
-use Rattle.mz_log.specs.declared.entry.Entry.TheVariants.{Opened, Queue, Apply, Read, Finish}
-use Rattle.mz_log.specs.declared.entry.Answered.{Answered}
-use Rattle.mz_log.specs.Log.{Log}
-use Rattle.mz_log.specs.Reads.{pending, pending_read}
+use Rattle.mz_kv_log.specs.declared.entry.Entry.TheVariants.{Opened, Queue, Apply, Read, Finish}
+use Rattle.mz_kv_log.specs.declared.entry.Answered.{Answered}
+use Rattle.mz_kv_log.specs.Log.{Log}
+use Rattle.mz_kv_log.specs.Reads.{pending, pending_read}
 
 -- the names of the sessions in order of opening; a session's number is its place, counted from 1
 abbrev pub sessions : Log → List (List ℕ)

@@ -1,13 +1,13 @@
 -- What a submission is answered.
 use Rattle.std.specs.Prelude.{ℕ, ◌+◌, Option, None, Some}
-use Rattle.mz_bag.specs.declared.statement.Statement.{Statement}
-use Rattle.mz_bag.specs.declared.statement.Statement.TheVariants.{Insert, Select}
-use Rattle.mz_log.specs.declared.entry.Entry.{Entry}
-use Rattle.mz_log.specs.declared.entry.Entry.TheVariants.{Queue, Read}
-use Rattle.mz_log.specs.Log.{Log}
-use Rattle.mz_log.specs.Rounds.{read_time}
-use Rattle.mz_log.specs.Sessions.{calls_made, outstanding}
-use Rattle.mz_log.specs.Reads.{peeks, collections}
+use Rattle.mz_kv_log.specs.declared.statement.Statement.{Statement}
+use Rattle.mz_kv_log.specs.declared.statement.Statement.TheVariants.{Insert, Select}
+use Rattle.mz_kv_log.specs.declared.entry.Entry.{Entry}
+use Rattle.mz_kv_log.specs.declared.entry.Entry.TheVariants.{Queue, Read}
+use Rattle.mz_kv_log.specs.Log.{Log}
+use Rattle.mz_kv_log.specs.Rounds.{read_time}
+use Rattle.mz_kv_log.specs.Sessions.{calls_made, outstanding}
+use Rattle.mz_kv_log.specs.Reads.{peeks, collections}
 
 -- a submission is refused because the session's call of this number has no reply yet, or it adds an entry
 pub data Outcome : Type 0 where

@@ -1,9 +1,9 @@
 -- The table `kv` at a time.
 use Rattle.std.specs.Prelude.{ℕ, [], ◌∷◌, nat_le, if◌then◌else◌}
 use Rattle.mz_bag.specs.Weighted.{Weighted}
-use Rattle.mz_log.specs.declared.entry.Entry.TheVariants.{Apply}
-use Rattle.mz_log.specs.Log.{Log}
-use Rattle.mz_log.specs.Sequential.{after_answers}
+use Rattle.mz_kv_log.specs.declared.entry.Entry.TheVariants.{Apply}
+use Rattle.mz_kv_log.specs.Log.{Log}
+use Rattle.mz_kv_log.specs.Sequential.{after_answers}
 
 -- the table after all rounds up to the time: the commands of each round that was applied, in order, done one after another
 abbrev pub table_at : Log → ℕ → Weighted

@@ -1,7 +1,7 @@
 //! The statements that a session may ask for.
 ghost use Rattle.std.specs.Prelude.{◌≡◌, IfOk};
 
-use crate::Rows;
+use mz_value::Rows;
 use std::alloc::{AllocError, Global};
 
 /// A statement over the built-in table `kv`.

@@ -1,0 +1,10 @@
+pub mod Log
+pub mod Rounds
+pub mod Reads
+pub mod Sessions
+pub mod Sequential
+pub mod Tables
+pub mod Calls
+pub mod Submission
+pub mod Legal
+pub mod History
