@@ -1,13 +1,13 @@
 -- What the entry of an accepted call says.
 use Rattle.std.proofs.Common.{◌≡◌, ℕ, ◌+◌, Option, Some, None, refl}
-use Rattle.mz_bag.specs.declared.statement.Statement.{Statement}
-use Rattle.mz_bag.specs.declared.statement.Statement.TheVariants.{Insert, Select}
-use Rattle.mz_log.specs.declared.entry.Entry.{Entry}
-use Rattle.mz_log.specs.declared.entry.Entry.TheVariants.{Queue, Read}
-use Rattle.mz_log.specs.Log.{Log}
-use Rattle.mz_log.specs.Rounds.{read_time}
-use Rattle.mz_log.specs.Sessions.{calls_made, outstanding}
-use Rattle.mz_log.specs.Submission.{Accepted, outcome, outcome_of, entry_of}
+use Rattle.mz_kv_log.specs.declared.statement.Statement.{Statement}
+use Rattle.mz_kv_log.specs.declared.statement.Statement.TheVariants.{Insert, Select}
+use Rattle.mz_kv_log.specs.declared.entry.Entry.{Entry}
+use Rattle.mz_kv_log.specs.declared.entry.Entry.TheVariants.{Queue, Read}
+use Rattle.mz_kv_log.specs.Log.{Log}
+use Rattle.mz_kv_log.specs.Rounds.{read_time}
+use Rattle.mz_kv_log.specs.Sessions.{calls_made, outstanding}
+use Rattle.mz_kv_log.specs.Submission.{Accepted, outcome, outcome_of, entry_of}
 
 -- a command: its session had none that waits, and the number is its next
 pub record AcceptedCommand (log : Log) (session number : ℕ) : Type 0 where

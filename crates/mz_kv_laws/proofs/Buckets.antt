@@ -2,11 +2,11 @@
 use Rattle.std.proofs.Common.{◌≡◌, ℕ, zero, suc, ◌<◌, ◌≤◌, true, false, cond, leb, ◌==◌, List, [], ◌∷◌, ◌++◌, refl, sym, ap, ap₂, ◌∙◌, append-nil, inl, inr, arith}
 use Rattle.std.proofs.lemmas.Bool.{cases_lt, cond-true, cond-false, cond_both, eqb-true, eq-eqb, ne_eqb, le-leb, lt-leb}
 use Rattle.std.proofs.lemmas.List.Elements.{filter-append}
-use Rattle.mz_log.specs.Calls.{Call}
-use Rattle.mz_log.specs.History.{put, by_time}
-use Rattle.mz_laws.specs.Order.{calls_at}
-use Rattle.mz_laws.specs.Tables.{calls_until}
-use Rattle.mz_laws.proofs.Each.{Each, each_append}
+use Rattle.mz_kv_log.specs.Calls.{Call}
+use Rattle.mz_kv_log.specs.History.{put, by_time}
+use Rattle.mz_kv_laws.specs.Order.{calls_at}
+use Rattle.mz_kv_laws.specs.Tables.{calls_until}
+use Rattle.mz_kv_laws.proofs.Each.{Each, each_append}
 
 -- the calls up to a time, one bucket after another
 abbrev pub upto : ℕ → List Call → List Call

@@ -1,6 +1,6 @@
 -- What holds of each call of a list.
 use Rattle.std.proofs.Common.{ℕ, zero, suc, ◌<◌, List, [], ◌∷◌, ◌++◌, length, slice_index_or, arith}
-use Rattle.mz_log.specs.Calls.{Call}
+use Rattle.mz_kv_log.specs.Calls.{Call}
 
 -- P holds of each call
 abbrev pub Each : (Call → Type 0) → List Call → Type 0

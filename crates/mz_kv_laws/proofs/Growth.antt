@@ -1,15 +1,15 @@
 -- A legal log that grows.
 use Rattle.std.proofs.Common.{◌≡◌, ℕ, ◌<◌, ◌≤◌, List, [], ◌∷◌, ◌++◌, refl, ◌∙◌, arith}
 use Rattle.std.proofs.lemmas.Bool.{cond-false, lt-leb}
-use Rattle.mz_bag.specs.declared.statement.Statement.{Statement}
-use Rattle.mz_log.specs.declared.entry.Answered.{Answered}
-use Rattle.mz_log.specs.declared.entry.Entry.TheVariants.{Opened, Queue, Begin, Apply, Read, Finish}
-use Rattle.mz_log.specs.Log.{Log}
-use Rattle.mz_log.specs.Rounds.{read_time, last_time, open_round}
-use Rattle.mz_log.specs.Tables.{table_at}
-use Rattle.mz_log.specs.Legal.{Legal}
-use Rattle.mz_laws.proofs.Accepted.{accepted_read}
-use Rattle.mz_laws.proofs.Times.{timely, round_ahead}
+use Rattle.mz_kv_log.specs.declared.statement.Statement.{Statement}
+use Rattle.mz_kv_log.specs.declared.entry.Answered.{Answered}
+use Rattle.mz_kv_log.specs.declared.entry.Entry.TheVariants.{Opened, Queue, Begin, Apply, Read, Finish}
+use Rattle.mz_kv_log.specs.Log.{Log}
+use Rattle.mz_kv_log.specs.Rounds.{read_time, last_time, open_round}
+use Rattle.mz_kv_log.specs.Tables.{table_at}
+use Rattle.mz_kv_log.specs.Legal.{Legal}
+use Rattle.mz_kv_laws.proofs.Accepted.{accepted_read}
+use Rattle.mz_kv_laws.proofs.Times.{timely, round_ahead}
 
 -- an earlier log is legal
 pub legal_earlier : (log since : Log) → Legal (since ++ log) → Legal log

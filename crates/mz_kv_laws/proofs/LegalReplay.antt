@@ -3,30 +3,30 @@ use Rattle.std.proofs.Common.{◌≡◌, ℕ, zero, suc, ◌<◌, ◌≤◌, max
 use Rattle.std.specs.FinMap.{entries}
 use Rattle.std.proofs.lemmas.Bool.{false≢true, cases_order, cond-true, cond-false, eqb-true, le-leb, lt-leb, and_right}
 use Rattle.mz_bag.specs.Weighted.{Weighted, bag_of}
-use Rattle.mz_bag.specs.declared.statement.Statement.TheVariants.{Select}
-use Rattle.mz_log.specs.declared.entry.Answered.{Answered}
-use Rattle.mz_log.specs.declared.entry.Entry.TheVariants.{Opened, Queue, Begin, Apply, Read, Finish}
-use Rattle.mz_log.specs.declared.entry.PendingRead.{PendingRead}
-use Rattle.mz_log.specs.declared.entry.Reply.{Reply}
-use Rattle.mz_log.specs.declared.entry.Reply.TheVariants.{Rows}
-use Rattle.mz_log.specs.Log.{Log}
-use Rattle.mz_log.specs.Reads.{pending_read}
-use Rattle.mz_log.specs.Rounds.{Round, read_time, last_time, open_round, queued}
-use Rattle.mz_log.specs.Sequential.{after_statement, reply_to, answers_to, after_answers}
-use Rattle.mz_log.specs.Tables.{table_at}
-use Rattle.mz_log.specs.Calls.{Call, answered, finished, calls}
-use Rattle.mz_log.specs.History.{ReplayFrom, Replays, history}
-use Rattle.mz_log.specs.Legal.{Legal, MayApply}
-use Rattle.mz_laws.specs.Tables.{after_calls, calls_until}
-use Rattle.mz_laws.proofs.Each.{Each, each_map}
-use Rattle.mz_laws.proofs.Options.{cond_like}
-use Rattle.mz_laws.proofs.Steps.{asking}
-use Rattle.mz_laws.proofs.Buckets.{by_time_upto, until_upto}
-use Rattle.mz_laws.proofs.Places.{has_from, each_has}
-use Rattle.mz_laws.proofs.Waiting.{reads_of, queue_is, pending_is, IsFrontOf, open_is_front}
-use Rattle.mz_laws.proofs.Accepted.{accepted_read}
-use Rattle.mz_laws.proofs.Times.{Until, timely, round_ahead}
-use Rattle.mz_laws.proofs.Reaches.{Reaches, before, buckets_replay, reaches_none, reaches_more, reaches_other, reaches_own, reaches_reads}
+use Rattle.mz_kv_log.specs.declared.statement.Statement.TheVariants.{Select}
+use Rattle.mz_kv_log.specs.declared.entry.Answered.{Answered}
+use Rattle.mz_kv_log.specs.declared.entry.Entry.TheVariants.{Opened, Queue, Begin, Apply, Read, Finish}
+use Rattle.mz_kv_log.specs.declared.entry.PendingRead.{PendingRead}
+use Rattle.mz_kv_log.specs.declared.entry.Reply.{Reply}
+use Rattle.mz_kv_log.specs.declared.entry.Reply.TheVariants.{Rows}
+use Rattle.mz_kv_log.specs.Log.{Log}
+use Rattle.mz_kv_log.specs.Reads.{pending_read}
+use Rattle.mz_kv_log.specs.Rounds.{Round, read_time, last_time, open_round, queued}
+use Rattle.mz_kv_log.specs.Sequential.{after_statement, reply_to, answers_to, after_answers}
+use Rattle.mz_kv_log.specs.Tables.{table_at}
+use Rattle.mz_kv_log.specs.Calls.{Call, answered, finished, calls}
+use Rattle.mz_kv_log.specs.History.{ReplayFrom, Replays, history}
+use Rattle.mz_kv_log.specs.Legal.{Legal, MayApply}
+use Rattle.mz_kv_laws.specs.Tables.{after_calls, calls_until}
+use Rattle.mz_kv_laws.proofs.Each.{Each, each_map}
+use Rattle.mz_kv_laws.proofs.Options.{cond_like}
+use Rattle.mz_kv_laws.proofs.Steps.{asking}
+use Rattle.mz_kv_laws.proofs.Buckets.{by_time_upto, until_upto}
+use Rattle.mz_kv_laws.proofs.Places.{has_from, each_has}
+use Rattle.mz_kv_laws.proofs.Waiting.{reads_of, queue_is, pending_is, IsFrontOf, open_is_front}
+use Rattle.mz_kv_laws.proofs.Accepted.{accepted_read}
+use Rattle.mz_kv_laws.proofs.Times.{Until, timely, round_ahead}
+use Rattle.mz_kv_laws.proofs.Reaches.{Reaches, before, buckets_replay, reaches_none, reaches_more, reaches_other, reaches_own, reaches_reads}
 
 -- the time of the read that is found
 same_time : (own read : PendingRead) → Some own ≡ Some read → own.time ≡ read.time

@@ -12,5 +12,6 @@ pub mod Sorting
 pub mod Numbering
 pub mod OneWaits
 pub mod SessionTimes
+pub mod SessionHistory
 pub mod Growth
 pub mod LaterCalls

@@ -4,17 +4,17 @@ use Rattle.std.specs.List.{range_with_len}
 use Rattle.std.proofs.lemmas.Bool.{eqb-true}
 use Rattle.std.proofs.lemmas.List.{map-append}
 use Rattle.std.proofs.lemmas.List.Elements.{filter-append}
-use Rattle.mz_log.specs.declared.entry.Answered.{Answered}
-use Rattle.mz_log.specs.declared.entry.Entry.TheVariants.{Opened, Queue, Begin, Apply, Read, Finish}
-use Rattle.mz_log.specs.declared.entry.Reply.{Reply}
-use Rattle.mz_log.specs.declared.entry.Reply.TheVariants.{Rows}
-use Rattle.mz_log.specs.Log.{Log}
-use Rattle.mz_log.specs.Calls.{Call, with_reply, is_waiting, answered, finished, calls}
-use Rattle.mz_log.specs.Sessions.{calls_made}
-use Rattle.mz_log.specs.Legal.{Legal}
-use Rattle.mz_laws.specs.Sessions.{calls_of, numbers}
-use Rattle.mz_laws.proofs.Steps.{takes}
-use Rattle.mz_laws.proofs.Accepted.{accepted_command, accepted_read}
+use Rattle.mz_kv_log.specs.declared.entry.Answered.{Answered}
+use Rattle.mz_kv_log.specs.declared.entry.Entry.TheVariants.{Opened, Queue, Begin, Apply, Read, Finish}
+use Rattle.mz_kv_log.specs.declared.entry.Reply.{Reply}
+use Rattle.mz_kv_log.specs.declared.entry.Reply.TheVariants.{Rows}
+use Rattle.mz_kv_log.specs.Log.{Log}
+use Rattle.mz_kv_log.specs.Calls.{Call, with_reply, is_waiting, answered, finished, calls}
+use Rattle.mz_kv_log.specs.Sessions.{calls_made}
+use Rattle.mz_kv_log.specs.Legal.{Legal}
+use Rattle.mz_kv_laws.specs.Sessions.{calls_of, numbers}
+use Rattle.mz_kv_laws.proofs.Steps.{takes}
+use Rattle.mz_kv_laws.proofs.Accepted.{accepted_command, accepted_read}
 
 -- two lists whose first calls are one call, but for its time and reply
 numbers_first : (s : ℕ) (c d : Call) (cs ds : List Call) → c.session ≡ d.session → c.number ≡ d.number

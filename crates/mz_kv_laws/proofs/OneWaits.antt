@@ -5,23 +5,23 @@ use Rattle.std.proofs.lemmas.Bool.{false≢true, cond-true, cond-false, and_from
 use Rattle.std.proofs.lemmas.List.{map-append, length-map}
 use Rattle.std.proofs.lemmas.List.Elements.{filter-append}
 use Rattle.mz_bag.specs.Weighted.{Weighted}
-use Rattle.mz_log.specs.declared.entry.Answered.{Answered}
-use Rattle.mz_log.specs.declared.entry.Entry.TheVariants.{Opened, Queue, Begin, Apply, Read, Finish}
-use Rattle.mz_log.specs.declared.entry.PendingRead.{PendingRead}
-use Rattle.mz_log.specs.declared.entry.Reply.{Reply}
-use Rattle.mz_log.specs.declared.entry.Reply.TheVariants.{Rows}
-use Rattle.mz_log.specs.Log.{Log, Command}
-use Rattle.mz_log.specs.Reads.{pending_read}
-use Rattle.mz_log.specs.Rounds.{Round, unanswered, queued, open_round, read_time}
-use Rattle.mz_log.specs.Sequential.{after_statement, answers_to}
-use Rattle.mz_log.specs.Tables.{table_at}
-use Rattle.mz_log.specs.Calls.{Call, with_reply, answered, finished, calls}
-use Rattle.mz_log.specs.Sessions.{calls_made, answers_session, is_awaited_by, outstanding}
-use Rattle.mz_log.specs.Legal.{Legal}
-use Rattle.mz_laws.specs.Sessions.{calls_of, unreplied, numbers}
-use Rattle.mz_laws.proofs.Accepted.{accepted_command, accepted_read}
-use Rattle.mz_laws.proofs.Steps.{takes, taken, asking}
-use Rattle.mz_laws.proofs.Waiting.{command_of, queue_of, reads_of, unanswered_none, queue_answered, reads_answered, queue_is, pending_is, IsFrontOf, open_is_front}
+use Rattle.mz_kv_log.specs.declared.entry.Answered.{Answered}
+use Rattle.mz_kv_log.specs.declared.entry.Entry.TheVariants.{Opened, Queue, Begin, Apply, Read, Finish}
+use Rattle.mz_kv_log.specs.declared.entry.PendingRead.{PendingRead}
+use Rattle.mz_kv_log.specs.declared.entry.Reply.{Reply}
+use Rattle.mz_kv_log.specs.declared.entry.Reply.TheVariants.{Rows}
+use Rattle.mz_kv_log.specs.Log.{Log, Command}
+use Rattle.mz_kv_log.specs.Reads.{pending_read}
+use Rattle.mz_kv_log.specs.Rounds.{Round, unanswered, queued, open_round, read_time}
+use Rattle.mz_kv_log.specs.Sequential.{after_statement, answers_to}
+use Rattle.mz_kv_log.specs.Tables.{table_at}
+use Rattle.mz_kv_log.specs.Calls.{Call, with_reply, answered, finished, calls}
+use Rattle.mz_kv_log.specs.Sessions.{calls_made, answers_session, is_awaited_by, outstanding}
+use Rattle.mz_kv_log.specs.Legal.{Legal}
+use Rattle.mz_kv_laws.specs.Sessions.{calls_of, unreplied, numbers}
+use Rattle.mz_kv_laws.proofs.Accepted.{accepted_command, accepted_read}
+use Rattle.mz_kv_laws.proofs.Steps.{takes, taken, asking}
+use Rattle.mz_kv_laws.proofs.Waiting.{command_of, queue_of, reads_of, unanswered_none, queue_answered, reads_answered, queue_is, pending_is, IsFrontOf, open_is_front}
 
 -- the calls of the session that have no reply
 abbrev waiting : ℕ → List Call → List Call

@@ -1,10 +1,10 @@
 -- Which calls a list has, and which stand before which.
 use Rattle.std.proofs.Common.{◌≡◌, ◌⊎◌, ℕ, zero, suc, ◌<◌, ◌≤◌, leb, List, [], ◌∷◌, length, slice_index_or, drop, Contains, refl, sym, ap, subst, inl, inr, arith}
 use Rattle.std.proofs.lemmas.Bool.{cond_both, leb-false}
-use Rattle.mz_log.specs.Calls.{Call}
-use Rattle.mz_log.specs.History.{put, by_time}
-use Rattle.mz_laws.specs.RealTime.{StandsBefore}
-use Rattle.mz_laws.proofs.Each.{Each}
+use Rattle.mz_kv_log.specs.Calls.{Call}
+use Rattle.mz_kv_log.specs.History.{put, by_time}
+use Rattle.mz_kv_laws.specs.RealTime.{StandsBefore}
+use Rattle.mz_kv_laws.proofs.Each.{Each}
 
 -- the call is one of the list: std's `Contains`, by recursion
 abbrev pub Has : Call → List Call → Type 0

@@ -2,21 +2,21 @@
 use Rattle.std.proofs.Common.{◌≡◌, ℕ, zero, suc, Bool, true, false, cond, ◌==◌, List, [], ◌∷◌, ◌++◌, Option, Some, None, is_some, IsSome, IfSome, is_none, refl, sym, ap, ◌∙◌, subst, inl, inr, if◌then◌else◌}
 use Rattle.std.proofs.lemmas.Bool.{cases_Bool, cond-true, cond-false, cond_both, eqb-true, eq-eqb, ne_eqb, and_parts, and_from, and_left}
 use Rattle.mz_bag.specs.Weighted.{Weighted}
-use Rattle.mz_bag.specs.declared.statement.Statement.{Statement}
-use Rattle.mz_bag.specs.declared.statement.Statement.TheVariants.{Select}
-use Rattle.mz_log.specs.declared.entry.Answered.{Answered}
-use Rattle.mz_log.specs.declared.entry.Reply.{Reply}
-use Rattle.mz_log.specs.Log.{Command}
-use Rattle.mz_log.specs.Sequential.{after_statement, reply_to, answers_to, after_answers}
-use Rattle.mz_log.specs.Calls.{Call, with_reply, is_queued, answered}
-use Rattle.mz_log.specs.History.{IsReplyFrom, after_call, ReplayFrom}
-use Rattle.mz_laws.specs.Order.{calls_at}
-use Rattle.mz_laws.specs.Tables.{after_calls}
-use Rattle.mz_laws.proofs.Each.{Each}
-use Rattle.mz_laws.proofs.Buckets.{upto}
-use Rattle.mz_laws.proofs.Waiting.{queue_of, command_of}
-use Rattle.mz_laws.proofs.Options.{cond_same, not_both}
-use Rattle.mz_laws.proofs.Steps.{takes, taken}
+use Rattle.mz_kv_log.specs.declared.statement.Statement.{Statement}
+use Rattle.mz_kv_log.specs.declared.statement.Statement.TheVariants.{Select}
+use Rattle.mz_kv_log.specs.declared.entry.Answered.{Answered}
+use Rattle.mz_kv_log.specs.declared.entry.Reply.{Reply}
+use Rattle.mz_kv_log.specs.Log.{Command}
+use Rattle.mz_kv_log.specs.Sequential.{after_statement, reply_to, answers_to, after_answers}
+use Rattle.mz_kv_log.specs.Calls.{Call, with_reply, is_queued, answered}
+use Rattle.mz_kv_log.specs.History.{IsReplyFrom, after_call, ReplayFrom}
+use Rattle.mz_kv_laws.specs.Order.{calls_at}
+use Rattle.mz_kv_laws.specs.Tables.{after_calls}
+use Rattle.mz_kv_laws.proofs.Each.{Each}
+use Rattle.mz_kv_laws.proofs.Buckets.{upto}
+use Rattle.mz_kv_laws.proofs.Waiting.{queue_of, command_of}
+use Rattle.mz_kv_laws.proofs.Options.{cond_same, not_both}
+use Rattle.mz_kv_laws.proofs.Steps.{takes, taken}
 
 -- the call has the reply that it should have, and a read stands where its time has the table that it ends with
 abbrev pub IsFine : Weighted → Weighted → Call → Type 0

@@ -2,33 +2,32 @@
 use Rattle.std.proofs.Common.{◌≡◌, ℕ, ◌≤◌, max, true, false, cond, ◌==◌, List, [], ◌∷◌, ◌++◌, None, is_none, option_to_list, refl, sym, ap, ◌∙◌, le_of_eq, arith}
 use Rattle.std.specs.List.Sorted.{IsNonDecreasingBy}
 use Rattle.std.proofs.lemmas.Bool.{both_ways, cond_both, eqb-true, eq-eqb}
-use Rattle.mz_log.specs.declared.entry.Answered.{Answered}
-use Rattle.mz_log.specs.declared.entry.Entry.TheVariants.{Opened, Queue, Begin, Apply, Read, Finish}
-use Rattle.mz_log.specs.declared.entry.Reply.{Reply}
-use Rattle.mz_log.specs.declared.entry.Reply.TheVariants.{Rows}
-use Rattle.mz_log.specs.Log.{Log}
-use Rattle.mz_log.specs.Calls.{Call, with_reply, is_waiting, seen, answered, finished, calls}
-use Rattle.mz_log.specs.Sessions.{outstanding}
-use Rattle.mz_log.specs.Legal.{Legal}
-use Rattle.mz_laws.specs.Sessions.{calls_of, unreplied, numbers}
-use Rattle.mz_laws.proofs.Each.{Each, each_append, each_map}
-use Rattle.mz_laws.proofs.Steps.{takes, taken, each_answered, each_finished}
-use Rattle.mz_laws.proofs.Accepted.{accepted_command, accepted_read}
-use Rattle.mz_laws.proofs.Times.{Until, timely, until_round}
-use Rattle.mz_laws.proofs.Sorting.{Rising, rising_index}
-use Rattle.mz_laws.proofs.Numbering.{session_numbers}
-use Rattle.mz_laws.proofs.OneWaits.{session_waits}
+use Rattle.mz_kv_log.specs.declared.entry.Answered.{Answered}
+use Rattle.mz_kv_log.specs.declared.entry.Entry.TheVariants.{Opened, Queue, Begin, Apply, Read, Finish}
+use Rattle.mz_kv_log.specs.declared.entry.Reply.{Reply}
+use Rattle.mz_kv_log.specs.declared.entry.Reply.TheVariants.{Rows}
+use Rattle.mz_kv_log.specs.Log.{Log}
+use Rattle.mz_kv_log.specs.Calls.{Call, with_reply, is_waiting, seen, answered, finished, calls}
+use Rattle.mz_kv_log.specs.Sessions.{outstanding}
+use Rattle.mz_kv_log.specs.Legal.{Legal}
+use Rattle.mz_kv_laws.specs.Sessions.{calls_of, unreplied, numbers}
+use Rattle.mz_kv_laws.proofs.Each.{Each, each_append, each_map}
+use Rattle.mz_kv_laws.proofs.Steps.{takes, taken, each_answered, each_finished}
+use Rattle.mz_kv_laws.proofs.Accepted.{accepted_command, accepted_read}
+use Rattle.mz_kv_laws.proofs.Times.{Until, timely, until_round}
+use Rattle.mz_kv_laws.proofs.Sorting.{Rising, rising_index}
+use Rattle.mz_kv_laws.proofs.OneWaits.{session_waits}
 
 -- a call of the session, which has its reply, and which a call of this time may follow
 abbrev IsBehind : ℕ → ℕ → Call → Type 0
 IsBehind s time call = call.session ≡ s → (call.time ≤ time) × (call.reply ≡ None → ⊥)
 
 -- where the call is one of the session, later ones of it have no earlier time, and there is none while it has no reply
-abbrev IsFollowed : ℕ → Call → Call → Type 0
+abbrev pub IsFollowed : ℕ → Call → Call → Type 0
 IsFollowed s call later = call.session ≡ s → later.session ≡ s → (call.time ≤ later.time) × (call.reply ≡ None → ⊥)
 
 -- so with each call of the list and those after it
-abbrev InOrder : ℕ → List Call → Type 0
+abbrev pub InOrder : ℕ → List Call → Type 0
 InOrder s [] = Unit {0}
 InOrder s (c ∷ cs) = Each (IsFollowed s c) cs × InOrder s cs
 
@@ -101,7 +100,7 @@ none_waits log s session l none same =
     none_unreplied (unreplied (calls_of s (calls log))) (session_waits log s l ∙ ap option_to_list (ap (outstanding log) (sym same) ∙ none))
 
 -- a session's next call comes once it has a reply to each, at no earlier time
-session_in_order : (log : Log) (s : ℕ) → Legal log → InOrder s (calls log)
+pub session_in_order : (log : Log) (s : ℕ) → Legal log → InOrder s (calls log)
 session_in_order [] s l = tt
 session_in_order (Opened name ∷ log) s l = session_in_order log s l.0
 session_in_order (Queue session number statement ∷ log) s l =
@@ -143,6 +142,3 @@ in_order_rising s (c ∷ cs) o =
 pub session_times : (log : Log) (session : ℕ) → Legal log → IsNonDecreasingBy (λ call. call.time) (calls_of session (calls log))
 session_times log session l =
     rising_index (calls_of session (calls log)) (in_order_rising session (calls log) (session_in_order log session l))
-
--- with the numbers of the calls
-pub ruleset order_laws = (session_numbers, session_times)

@@ -3,12 +3,12 @@ use Rattle.std.proofs.Common.{◌≡◌, ℕ, zero, suc, ◌<◌, ◌≤◌, max
 use Rattle.std.specs.List.Sorted.{IsPermutation, IsNonDecreasingBy}
 use Rattle.std.proofs.lemmas.Bool.{cond-false, cond_both, eqb-true, leb-true, leb-false, ne_eqb}
 use Rattle.std.proofs.lemmas.List.Sorted.{IsPermutation-refl, IsPermutation-trans, IsPermutation-cons, IsPermutation-middle}
-use Rattle.mz_log.specs.Log.{Log}
-use Rattle.mz_log.specs.Calls.{Call, calls}
-use Rattle.mz_log.specs.History.{put, by_time, history}
-use Rattle.mz_laws.specs.Order.{calls_at}
-use Rattle.mz_laws.proofs.Each.{Each, each_map, each_index, each_from_index}
-use Rattle.mz_laws.proofs.Buckets.{put_front, upto, by_time_upto}
+use Rattle.mz_kv_log.specs.Log.{Log}
+use Rattle.mz_kv_log.specs.Calls.{Call, calls}
+use Rattle.mz_kv_log.specs.History.{put, by_time, history}
+use Rattle.mz_kv_laws.specs.Order.{calls_at}
+use Rattle.mz_kv_laws.proofs.Each.{Each, each_map, each_index, each_from_index}
+use Rattle.mz_kv_laws.proofs.Buckets.{put_front, upto, by_time_upto}
 
 -- no call has a later time than one after it
 abbrev pub Rising : List Call → Type 0
@@ -33,6 +33,11 @@ put_rising c (x ∷ xs) r =
 by_time_rising : (cs : List Call) → Rising (by_time cs)
 by_time_rising [] = tt
 by_time_rising (c ∷ cs) = put_rising c (by_time cs) (by_time_rising cs)
+
+-- what holds of each call holds of each sorted one
+pub each_by_time : (P : Call → Type 0) (cs : List Call) → Each P cs → Each P (by_time cs)
+each_by_time P [] e = tt
+each_by_time P (c ∷ cs) e = each_put P c (by_time cs) e.0 (each_by_time P cs e.1)
 
 -- a call moves past others, and none is lost
 put_permutes : (c : Call) (xs : List Call) → IsPermutation (c ∷ xs) (put c xs)
@@ -127,11 +132,11 @@ unfolding greatest
 within_greatest n [] h = tt
 within_greatest n (c ∷ cs) h = (omega arith, within_greatest n cs (omega arith))
 
--- a list that rises, and has the calls of each time in their order, is the history
-pub history_only : (log : Log) (sorted : List Call) → IsNonDecreasingBy (λ call. call.time) sorted
-    → ((time : ℕ) → calls_at time sorted ≡ calls_at time (calls log)) → sorted ≡ history log
-history_only log sorted rising alike =
-    let n = max (greatest sorted) (greatest (calls log)) in
+-- a list that rises, and has the calls of each time in their order, is the sorted list
+pub sorted_only : (calls sorted : List Call) → IsNonDecreasingBy (λ call. call.time) sorted
+    → ((time : ℕ) → calls_at time sorted ≡ calls_at time calls) → sorted ≡ by_time calls
+sorted_only calls sorted rising alike =
+    let n = max (greatest sorted) (greatest calls) in
     sym (rising_sorted sorted (rising_from_index sorted rising)) ∙ by_time_upto n sorted (within_greatest n sorted (omega arith))
-    ∙ upto_alike sorted (calls log) alike n
-    ∙ sym (by_time_upto n (calls log) (within_greatest n (calls log) (omega arith)))
+    ∙ upto_alike sorted calls alike n
+    ∙ sym (by_time_upto n calls (within_greatest n calls (omega arith)))

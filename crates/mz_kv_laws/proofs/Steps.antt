@@ -2,12 +2,12 @@
 use Rattle.std.proofs.Common.{◌≡◌, ℕ, ◌≤◌, Bool, true, false, ◌==◌, ◌&&◌, List, [], ◌∷◌, Option, Some, None, is_none, refl}
 use Rattle.std.specs.Option.{option_map_or}
 use Rattle.std.proofs.lemmas.Bool.{false≢true, cond_both, and_parts, and_left, eqb-true}
-use Rattle.mz_log.specs.declared.entry.Answered.{Answered}
-use Rattle.mz_log.specs.declared.entry.Reply.{Reply}
-use Rattle.mz_log.specs.Log.{is_reply_to}
-use Rattle.mz_log.specs.Calls.{Call, with_reply, is_queued, is_waiting, answered, finished}
-use Rattle.mz_laws.proofs.Options.{none_of}
-use Rattle.mz_laws.proofs.Each.{Each}
+use Rattle.mz_kv_log.specs.declared.entry.Answered.{Answered}
+use Rattle.mz_kv_log.specs.declared.entry.Reply.{Reply}
+use Rattle.mz_kv_log.specs.Log.{is_reply_to}
+use Rattle.mz_kv_log.specs.Calls.{Call, with_reply, is_queued, is_waiting, answered, finished}
+use Rattle.mz_kv_laws.proofs.Options.{none_of}
+use Rattle.mz_kv_laws.proofs.Each.{Each}
 
 -- the answer goes to the call
 abbrev pub takes : Answered → Call → Bool

@@ -1,16 +1,16 @@
 -- The times of a legal log.
 use Rattle.std.proofs.Common.{◌≡◌, ℕ, ◌<◌, ◌≤◌, max, ◌==◌, List, [], ◌∷◌, Option, Some, None, subst, arith}
 use Rattle.std.proofs.lemmas.Bool.{cond_both}
-use Rattle.mz_log.specs.declared.entry.Entry.TheVariants.{Opened, Queue, Begin, Apply, Read, Finish}
-use Rattle.mz_log.specs.declared.entry.Answered.{Answered}
-use Rattle.mz_log.specs.declared.entry.Reply.TheVariants.{Rows}
-use Rattle.mz_log.specs.Log.{Log}
-use Rattle.mz_log.specs.Rounds.{Round, read_time, last_time, open_round}
-use Rattle.mz_log.specs.Calls.{Call, seen, calls}
-use Rattle.mz_log.specs.Legal.{Legal}
-use Rattle.mz_laws.proofs.Each.{Each, each_append, each_map}
-use Rattle.mz_laws.proofs.Steps.{each_answered, each_finished}
-use Rattle.mz_laws.proofs.Accepted.{accepted_read}
+use Rattle.mz_kv_log.specs.declared.entry.Entry.TheVariants.{Opened, Queue, Begin, Apply, Read, Finish}
+use Rattle.mz_kv_log.specs.declared.entry.Answered.{Answered}
+use Rattle.mz_kv_log.specs.declared.entry.Reply.TheVariants.{Rows}
+use Rattle.mz_kv_log.specs.Log.{Log}
+use Rattle.mz_kv_log.specs.Rounds.{Round, read_time, last_time, open_round}
+use Rattle.mz_kv_log.specs.Calls.{Call, seen, calls}
+use Rattle.mz_kv_log.specs.Legal.{Legal}
+use Rattle.mz_kv_laws.proofs.Each.{Each, each_append, each_map}
+use Rattle.mz_kv_laws.proofs.Steps.{each_answered, each_finished}
+use Rattle.mz_kv_laws.proofs.Accepted.{accepted_read}
 
 -- each call's time is at most this
 abbrev pub Until : ℕ → List Call → Type 0

@@ -1,16 +1,16 @@
 -- The commands and the reads that wait, as the calls show them and as the log does.
 use Rattle.std.proofs.Common.{◌≡◌, ℕ, true, false, cond, ◌==◌, ◌&&◌, List, [], ◌∷◌, ◌++◌, Option, Some, None, is_none, refl, sym, ap, ◌∙◌, append-nil, append_assoc, if◌then◌else◌}
 use Rattle.std.proofs.lemmas.Bool.{cond-true, cond-false, and_right}
-use Rattle.mz_log.specs.declared.entry.Entry.TheVariants.{Opened, Queue, Begin, Apply, Read, Finish}
-use Rattle.mz_log.specs.declared.entry.Answered.{Answered}
-use Rattle.mz_log.specs.declared.entry.PendingRead.{PendingRead}
-use Rattle.mz_log.specs.declared.entry.Reply.{Reply}
-use Rattle.mz_log.specs.declared.entry.Reply.TheVariants.{Rows}
-use Rattle.mz_log.specs.Log.{Log, Command, is_reply_to}
-use Rattle.mz_log.specs.Rounds.{Round, unanswered, queued, open_round}
-use Rattle.mz_log.specs.Reads.{pending, without_peek}
-use Rattle.mz_log.specs.Calls.{Call, with_reply, is_queued, is_waiting, answered, finished, calls}
-use Rattle.mz_laws.proofs.Steps.{takes, taken, waits, asking}
+use Rattle.mz_kv_log.specs.declared.entry.Entry.TheVariants.{Opened, Queue, Begin, Apply, Read, Finish}
+use Rattle.mz_kv_log.specs.declared.entry.Answered.{Answered}
+use Rattle.mz_kv_log.specs.declared.entry.PendingRead.{PendingRead}
+use Rattle.mz_kv_log.specs.declared.entry.Reply.{Reply}
+use Rattle.mz_kv_log.specs.declared.entry.Reply.TheVariants.{Rows}
+use Rattle.mz_kv_log.specs.Log.{Log, Command, is_reply_to}
+use Rattle.mz_kv_log.specs.Rounds.{Round, unanswered, queued, open_round}
+use Rattle.mz_kv_log.specs.Reads.{pending, without_peek}
+use Rattle.mz_kv_log.specs.Calls.{Call, with_reply, is_queued, is_waiting, answered, finished, calls}
+use Rattle.mz_kv_laws.proofs.Steps.{takes, taken, waits, asking}
 
 -- what a call asks a round for
 abbrev pub command_of : Call → Command

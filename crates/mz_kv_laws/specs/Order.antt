@@ -1,6 +1,6 @@
 -- The order in which calls stand.
 use Rattle.std.specs.Prelude.{ℕ, ◌==◌, List, filter}
-use Rattle.mz_log.specs.Calls.{Call}
+use Rattle.mz_kv_log.specs.Calls.{Call}
 
 -- the calls of one time, in their order
 abbrev pub calls_at : ℕ → List Call → List Call

@@ -1,6 +1,6 @@
 -- The calls of one session.
 use Rattle.std.specs.Prelude.{ℕ, ◌==◌, List, map, filter, is_none}
-use Rattle.mz_log.specs.Calls.{Call}
+use Rattle.mz_kv_log.specs.Calls.{Call}
 
 -- the calls of the session, in their order
 abbrev pub calls_of : ℕ → List Call → List Call

@@ -1,8 +1,8 @@
 -- The table that calls leave.
 use Rattle.std.specs.Prelude.{ℕ, List, [], ◌∷◌, filter, nat_le}
 use Rattle.mz_bag.specs.Weighted.{Weighted}
-use Rattle.mz_log.specs.Calls.{Call}
-use Rattle.mz_log.specs.History.{after_call}
+use Rattle.mz_kv_log.specs.Calls.{Call}
+use Rattle.mz_kv_log.specs.History.{after_call}
 
 -- the table once these calls are done, one after another
 abbrev pub after_calls : Weighted → List Call → Weighted

@@ -1,8 +1,8 @@
 //! The history of a log is its calls, sorted by time.
-ghost use Rattle.mz_log.specs.Calls.{Call, calls};
-ghost use Rattle.mz_log.specs.History.{history};
-ghost use Rattle.mz_log.specs.Log.{Log};
-ghost use Rattle.mz_laws.specs.Order.{calls_at};
+ghost use Rattle.mz_kv_log.specs.Calls.{Call, calls};
+ghost use Rattle.mz_kv_log.specs.History.{by_time, history};
+ghost use Rattle.mz_kv_log.specs.Log.{Log};
+ghost use Rattle.mz_kv_laws.specs.Order.{calls_at};
 ghost use Rattle.std.specs.List.Sorted.{IsNonDecreasingBy};
 ghost use Rattle.std.specs.Prelude.{◌≡◌, ℕ, List, IsPermutation};
 
@@ -16,10 +16,9 @@ pub fn history_is_sorted()
         → calls_at time (history log) ≡ calls_at time (calls log) }
 {}
 
-/// No other list is sorted so: one whose times never fall, with the calls of each time as they were submitted, is the
-/// history. A stable sort of the calls by their times therefore makes it. Takes no memory.
-#[tactic(auto, using(crate::proofs::Sorting::history_only))]
+/// Any calls are sorted so in one way: a list whose times never fall, with the calls of each time in their order, is that of
+/// `by_time`, by which the history is made. A stable sort of calls by their times therefore makes it. Takes no memory.
 pub fn sorted_is_history()
-    ensures { (log : Log) (sorted : List Call) → IsNonDecreasingBy (λ call. call.time) sorted
-        → ((time : ℕ) → calls_at time sorted ≡ calls_at time (calls log)) → sorted ≡ history log }
+    ensures { (calls sorted : List Call) → IsNonDecreasingBy (λ call. call.time) sorted
+        → ((time : ℕ) → calls_at time sorted ≡ calls_at time calls) → sorted ≡ by_time calls }
 {}

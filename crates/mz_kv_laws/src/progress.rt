@@ -1,10 +1,10 @@
 //! Time goes on: what a longer legal log keeps of a shorter one.
-ghost use Rattle.mz_bag.specs.declared.statement.Statement.{Statement};
-ghost use Rattle.mz_log.specs.declared.entry.Entry.TheVariants.{Read};
-ghost use Rattle.mz_log.specs.Legal.{Legal};
-ghost use Rattle.mz_log.specs.Log.{Log};
-ghost use Rattle.mz_log.specs.Rounds.{last_time, read_time};
-ghost use Rattle.mz_log.specs.Tables.{table_at};
+ghost use Rattle.mz_kv_log.specs.declared.statement.Statement.{Statement};
+ghost use Rattle.mz_kv_log.specs.declared.entry.Entry.TheVariants.{Read};
+ghost use Rattle.mz_kv_log.specs.Legal.{Legal};
+ghost use Rattle.mz_kv_log.specs.Log.{Log};
+ghost use Rattle.mz_kv_log.specs.Rounds.{last_time, read_time};
+ghost use Rattle.mz_kv_log.specs.Tables.{table_at};
 ghost use Rattle.std.specs.Prelude.{◌≡◌, ℕ, ◌≤◌, ◌∷◌, ◌++◌};
 
 /// The read time never falls as a legal log grows, and is never past the last time that a round was given. Takes no

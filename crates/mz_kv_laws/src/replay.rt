@@ -1,12 +1,12 @@
 //! A legal log tells what the sequential object would have told.
-ghost use Rattle.mz_bag.specs.declared.statement.Statement.TheVariants.{Select};
-ghost use Rattle.mz_laws.specs.Tables.{after_calls, calls_until};
-ghost use Rattle.mz_log.specs.Calls.{Call, calls};
-ghost use Rattle.mz_log.specs.History.{Replays, history};
-ghost use Rattle.mz_log.specs.Legal.{Legal};
-ghost use Rattle.mz_log.specs.Log.{Log};
-ghost use Rattle.mz_log.specs.Sequential.{reply_to};
-ghost use Rattle.mz_log.specs.Tables.{table_at};
+ghost use Rattle.mz_kv_log.specs.declared.statement.Statement.TheVariants.{Select};
+ghost use Rattle.mz_kv_laws.specs.Tables.{after_calls, calls_until};
+ghost use Rattle.mz_kv_log.specs.Calls.{Call, calls};
+ghost use Rattle.mz_kv_log.specs.History.{Replays, history};
+ghost use Rattle.mz_kv_log.specs.Legal.{Legal};
+ghost use Rattle.mz_kv_log.specs.Log.{Log};
+ghost use Rattle.mz_kv_log.specs.Sequential.{reply_to};
+ghost use Rattle.mz_kv_log.specs.Tables.{table_at};
 ghost use Rattle.std.specs.Prelude.{◌≡◌, ℕ, [], Contains, IfSome, IsSome};
 
 /// The history of a legal log replays: done one after another on the sequential object, in the order of their times and
