@@ -6,7 +6,6 @@ use Rattle.std.specs.Str.{bytes_eq}
 use Rattle.std.proofs.lemmas.Slice.Eq.{bytes_eq-Decides}
 use Rattle.std.specs.Io.KnownBytes.{Appends, Keeps}
 use Rattle.std.proofs.KnownBytes.{Appends-kept}
-use Rattle.std.proofs.lemmas.List.{take_all}
 use Rattle.std.proofs.Math.Seq.{take-length}
 use Rattle.mz_io.specs.Causes.{Rose}
 use Rattle.mz_io.specs.Written.{AppendsFront}
@@ -15,7 +14,7 @@ use Rattle.mz_shell.specs.declared.script.Stop.{Stop}
 use Rattle.mz_shell.specs.declared.script.Stop.TheVariants.{Source, Sink, Memory, TooLong}
 use Rattle.mz_shell.specs.Lines.{whole_lines}
 use Rattle.mz_shell.specs.Transcript.{transcript}
-use Rattle.mz_shell.specs.Answers.{longest_input, usage, script_words, IsFinished, IsCutOff, IsPartWritten, IsTooLong, StopsScript, ClosesAs, IsScriptAnswer, IsRefusal}
+use Rattle.mz_shell.specs.Runs.{longest_input, usage, script_words, IsFinished, IsCutOff, IsPartWritten, IsTooLong, StopsScript, ClosesAs, IsScriptAnswer, IsRefusal}
 
 all_front : (old new : Option (List ℕ)) (text : List ℕ) → Appends old new text → AppendsFront old new text
 all_front old new text h = (length text, omega arith, subst (Appends old new) (sym (take-length text)) h)
@@ -28,7 +27,7 @@ finished_part left left' written written' h = record {
   read = h.read;
   consumed = h.consumed;
   script = h.read;
-  counted = inr (sym (take_all longest_input h.read h.within), h.at_end);
+  counted = inr (record { all = refl; within = h.within; at_end = h.at_end });
   wrote = all_front written written' (transcript h.read) h.wrote;
 }
 

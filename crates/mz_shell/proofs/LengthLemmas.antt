@@ -2,9 +2,9 @@
 use Rattle.std.proofs.Common.{◌≡◌, ℕ, ◌+◌, ◌-◌, ◌≤◌, Bool, true, false, not, ◌||◌, cond, ltb, eqb, nat_lt, ◌==◌, List, [], ◌∷◌, length, take, drop, position, Option, None, Some, unwrap_or, codes, refl, ap, length-drop, length-take, arith}
 use Rattle.std.proofs.lemmas.Bool.Decides.{nat_tests}
 use Rattle.std.specs.Str.{bytes_eq, is_utf8}
-use Rattle.mz_bag.specs.declared.datum.Datum.{Datum}
-use Rattle.mz_bag.specs.declared.statement.Statement.{Statement}
-use Rattle.mz_bag.specs.declared.statement.Statement.TheVariants.{Insert, Select}
+use Rattle.mz_value.specs.declared.datum.Datum.{Datum}
+use Rattle.mz_kv_log.specs.declared.statement.Statement.{Statement}
+use Rattle.mz_kv_log.specs.declared.statement.Statement.TheVariants.{Insert, Select}
 use Rattle.mz_shell.specs.declared.script_line.ScriptLine.{ScriptLine}
 use Rattle.mz_shell.specs.declared.script_line.ScriptLine.TheVariants.{Skipped, Unbuilt, Says, Commit, Settle}
 use Rattle.mz_shell.specs.Lines.{onto_first}

@@ -3,11 +3,11 @@ use Rattle.std.proofs.Common.{◌≡◌, ℕ, zero, suc, ◌+◌, ◌-◌, ◌�
 use Rattle.std.proofs.lemmas.Int.{ints}
 use Rattle.std.proofs.lemmas.List.Sums.{sum_by-append, sum_by-cons}
 use Rattle.std.specs.List.{AllByRecursion}
-use Rattle.mz_bag.specs.declared.datum.Datum.{Datum}
-use Rattle.mz_bag.specs.Row.{row_eq}
+use Rattle.mz_value.specs.declared.datum.Datum.{Datum}
+use Rattle.mz_value.specs.Row.{row_eq}
 use Rattle.mz_bag.specs.Bag.{Counts, count_in, with_count, Fits}
 use Rattle.mz_bag.proofs.BagLaws.{count_in-added}
-use Rattle.mz_log.specs.declared.entry.PendingRead.{PendingRead}
+use Rattle.mz_kv_log.specs.declared.entry.PendingRead.{PendingRead}
 use Rattle.mz_shell.specs.declared.table.Write.{Write}
 use Rattle.mz_shell.specs.declared.world.Session.{Session}
 use Rattle.mz_shell.specs.declared.world.Waiting.{Waiting}

@@ -3,11 +3,11 @@ use Rattle.std.proofs.Common.{◌≡◌, ◌≢◌, ℕ, zero, suc, ◌+◌, ◌
 use Rattle.std.proofs.lemmas.Bool.Decides.{nat_tests}
 use Rattle.std.specs.List.{AllByRecursion, list_any, position_or_len}
 use Rattle.mz_bag.specs.Weighted.{Weighted}
-use Rattle.mz_log.specs.declared.entry.Entry.TheVariants.{Opened, Queue, Begin, Apply, Read, Finish}
-use Rattle.mz_log.specs.Log.{Log}
-use Rattle.mz_log.specs.Sessions.{sessions, calls_made, outstanding, answers_session}
-use Rattle.mz_log.specs.Sequential.{after_statement, answers_to}
-use Rattle.mz_log.specs.Legal.{Legal}
+use Rattle.mz_kv_log.specs.declared.entry.Entry.TheVariants.{Opened, Queue, Begin, Apply, Read, Finish}
+use Rattle.mz_kv_log.specs.Log.{Log}
+use Rattle.mz_kv_log.specs.Sessions.{sessions, calls_made, outstanding, answers_session}
+use Rattle.mz_kv_log.specs.Sequential.{after_statement, answers_to}
+use Rattle.mz_kv_log.specs.Legal.{Legal}
 use Rattle.mz_shell.specs.declared.world.Session.{Session}
 use Rattle.mz_shell.specs.declared.world.Waiting.{Waiting}
 use Rattle.mz_shell.specs.State.{new_session, replied}

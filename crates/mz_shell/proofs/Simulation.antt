@@ -3,20 +3,20 @@ use Rattle.std.proofs.Common.{◌≡◌, ℕ, ◌+◌, ◌^◌, ◌<◌, ◌≤�
 use Rattle.std.proofs.lemmas.List.{length-map}
 use Rattle.std.specs.Str.{bytes_eq}
 use Rattle.std.specs.FinMap.{entries}
-use Rattle.mz_bag.specs.declared.statement.Statement.{Statement}
-use Rattle.mz_bag.specs.declared.statement.Statement.TheVariants.{Insert, Select}
+use Rattle.mz_kv_log.specs.declared.statement.Statement.{Statement}
+use Rattle.mz_kv_log.specs.declared.statement.Statement.TheVariants.{Insert, Select}
 use Rattle.mz_bag.specs.Weighted.{Weighted, bag_of, each_once}
 use Rattle.mz_bag.specs.Bag.{Counts}
-use Rattle.mz_log.specs.declared.entry.Entry.TheVariants.{Opened, Finish}
-use Rattle.mz_log.specs.declared.entry.PendingRead.{PendingRead}
-use Rattle.mz_log.specs.Log.{Log, Command}
-use Rattle.mz_log.specs.Rounds.{read_time, last_time, queued}
-use Rattle.mz_log.specs.Sessions.{sessions, outstanding}
-use Rattle.mz_log.specs.Reads.{pending}
-use Rattle.mz_log.specs.Sequential.{answers_to}
-use Rattle.mz_log.specs.Tables.{table_at}
-use Rattle.mz_log.specs.Submission.{outcome, outcome_of}
-use Rattle.mz_log.specs.Legal.{most_sessions}
+use Rattle.mz_kv_log.specs.declared.entry.Entry.TheVariants.{Opened, Finish}
+use Rattle.mz_kv_log.specs.declared.entry.PendingRead.{PendingRead}
+use Rattle.mz_kv_log.specs.Log.{Log, Command}
+use Rattle.mz_kv_log.specs.Rounds.{read_time, last_time, queued}
+use Rattle.mz_kv_log.specs.Sessions.{sessions, outstanding}
+use Rattle.mz_kv_log.specs.Reads.{pending}
+use Rattle.mz_kv_log.specs.Sequential.{answers_to}
+use Rattle.mz_kv_log.specs.Tables.{table_at}
+use Rattle.mz_kv_log.specs.Submission.{outcome, outcome_of}
+use Rattle.mz_kv_log.specs.Legal.{most_sessions}
 use Rattle.mz_shell.specs.declared.script_line.ScriptLine.{ScriptLine}
 use Rattle.mz_shell.specs.declared.script_line.ScriptLine.TheVariants.{Skipped, Unbuilt, Says, Commit, Settle}
 use Rattle.mz_shell.specs.declared.world.Session.{Session}

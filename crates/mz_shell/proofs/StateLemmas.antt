@@ -4,20 +4,20 @@ use Rattle.std.proofs.lemmas.List.{map-append}
 use Rattle.std.specs.List.{AllByRecursion, list_any}
 use Rattle.std.specs.Option.{option_map_or}
 use Rattle.std.specs.Str.{bytes_eq}
-use Rattle.mz_bag.specs.declared.datum.Datum.{Datum}
-use Rattle.mz_bag.specs.declared.statement.Statement.TheVariants.{Insert, Select}
+use Rattle.mz_value.specs.declared.datum.Datum.{Datum}
+use Rattle.mz_kv_log.specs.declared.statement.Statement.TheVariants.{Insert, Select}
 use Rattle.mz_bag.specs.Weighted.{Weighted}
-use Rattle.mz_log.specs.declared.entry.Entry.TheVariants.{Opened, Queue, Read, Finish}
-use Rattle.mz_log.specs.declared.entry.Answered.{Answered}
-use Rattle.mz_log.specs.declared.entry.PendingRead.{PendingRead}
-use Rattle.mz_log.specs.Log.{Log, Command}
-use Rattle.mz_log.specs.Rounds.{read_time, last_time, rounds, queued, unanswered}
-use Rattle.mz_log.specs.Sessions.{sessions, calls_made, outstanding, answers_session}
-use Rattle.mz_log.specs.Reads.{peeks, collections, pending, pending_read, without_peek}
-use Rattle.mz_log.specs.Sequential.{after_statement, answers_to, after_answers}
-use Rattle.mz_log.specs.Tables.{table_at}
-use Rattle.mz_log.specs.Submission.{outcome_of}
-use Rattle.mz_log.specs.Legal.{most_sessions}
+use Rattle.mz_kv_log.specs.declared.entry.Entry.TheVariants.{Opened, Queue, Read, Finish}
+use Rattle.mz_kv_log.specs.declared.entry.Answered.{Answered}
+use Rattle.mz_kv_log.specs.declared.entry.PendingRead.{PendingRead}
+use Rattle.mz_kv_log.specs.Log.{Log, Command}
+use Rattle.mz_kv_log.specs.Rounds.{read_time, last_time, rounds, queued, unanswered}
+use Rattle.mz_kv_log.specs.Sessions.{sessions, calls_made, outstanding, answers_session}
+use Rattle.mz_kv_log.specs.Reads.{peeks, collections, pending, pending_read, without_peek}
+use Rattle.mz_kv_log.specs.Sequential.{after_statement, answers_to, after_answers}
+use Rattle.mz_kv_log.specs.Tables.{table_at}
+use Rattle.mz_kv_log.specs.Submission.{outcome_of}
+use Rattle.mz_kv_log.specs.Legal.{most_sessions}
 use Rattle.mz_shell.specs.declared.world.Session.{Session}
 use Rattle.mz_shell.specs.declared.world.Waiting.{Waiting}
 use Rattle.mz_shell.specs.Machine.{replies, rows_at, committed as committed_log}

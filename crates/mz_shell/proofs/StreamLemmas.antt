@@ -6,8 +6,8 @@ use Rattle.std.proofs.KnownBytes.{Appends-nil, Appends-trans, Consumes-nil, Cons
 use Rattle.std.proofs.lemmas.List.{drop-append-le, take-append-drop, length-drop, length-take, length-take-le, take_all}
 use Rattle.std.proofs.Math.Seq.{drop-append-add}
 use Rattle.mz_io.specs.Written.{AppendsFront}
-use Rattle.mz_laws.proofs.LegalReplay.{legal_replay}
-use Rattle.mz_log.specs.Legal.{Legal}
+use Rattle.mz_kv_laws.proofs.LegalReplay.{legal_replay}
+use Rattle.mz_kv_log.specs.Legal.{Legal}
 use Rattle.mz_shell.specs.Lines.{lines_of, onto_first, whole_lines, onto_some}
 use Rattle.mz_shell.specs.Machine.{Machine, opening, after_line}
 use Rattle.mz_shell.specs.Transcript.{after_lines, lines_text, transcript, log_of}
@@ -15,7 +15,7 @@ use Rattle.mz_shell.specs.State.{State, fresh, next_state, says_text, lines_stat
 use Rattle.mz_shell.specs.ScriptLines.{line_says}
 use Rattle.mz_shell.specs.Stands.{StandsFor}
 use Rattle.mz_shell.specs.Reading.{IsSound, unfinished, said_of, HasRead, IsGoing, completed, left_waiting, StopsAnswer}
-use Rattle.mz_shell.specs.Answers.{longest_input, IsFinished, IsCutOff, IsPartWritten, IsTooLong, StopsScript}
+use Rattle.mz_shell.specs.Runs.{longest_input, IsFinished, IsCutOff, IsPartWritten, IsTooLong, StopsScript}
 use Rattle.mz_io.proofs.CauseLemmas.{Rose-earlier}
 use Rattle.mz_shell.specs.declared.script.Stop.{Stop}
 use Rattle.mz_shell.specs.declared.script.Stop.TheVariants.{Source, Sink, Memory, TooLong}
@@ -341,7 +341,7 @@ going_end_part left left' left'' written written' written'' state waiting count 
       read = going.read;
       consumed = subst (Consumes left left'') (append-nil going.read) (Consumes-trans left left' left'' going.read [] going.consumed nothing);
       script = going.read;
-      counted = inr (sym (take_all longest_input going.read (omega arith)), at_end);
+      counted = inr (record { all = refl; within = omega arith; at_end = at_end });
       wrote = front_after written written' written'' (said_of going.read) _ (transcript going.read) going.wrote (ended_text state waiting going.read going.has (omega arith)) wrote;
     }
 

@@ -3,17 +3,17 @@ use Rattle.std.proofs.Common.{◌≡◌, ℕ, suc, ◌+◌, ◌<◌, ◌≤◌, 
 use Rattle.std.proofs.lemmas.Bool.Decides.{nat_tests}
 use Rattle.std.proofs.lemmas.List.Sums.{sum_by-cons}
 use Rattle.std.specs.List.{AllByRecursion}
-use Rattle.mz_bag.specs.declared.datum.Datum.{Datum}
-use Rattle.mz_bag.specs.declared.statement.Statement.{Statement}
-use Rattle.mz_bag.specs.declared.statement.Statement.TheVariants.{Insert, Select}
+use Rattle.mz_value.specs.declared.datum.Datum.{Datum}
+use Rattle.mz_kv_log.specs.declared.statement.Statement.{Statement}
+use Rattle.mz_kv_log.specs.declared.statement.Statement.TheVariants.{Insert, Select}
 use Rattle.mz_bag.specs.Bag.{Counts}
 use Rattle.mz_bag.specs.Weighted.{Weighted, bag_of, each_once}
 use Rattle.mz_bag.proofs.BagLaws.{bag_of-push, each_once-weights}
-use Rattle.mz_log.specs.declared.entry.Entry.TheVariants.{Opened, Queue, Begin, Apply, Read, Finish}
-use Rattle.mz_log.specs.declared.entry.Answered.{Answered}
-use Rattle.mz_log.specs.Log.{Log, Command}
-use Rattle.mz_log.specs.Sequential.{after_statement, answers_to, after_answers}
-use Rattle.mz_log.specs.Tables.{table_at}
+use Rattle.mz_kv_log.specs.declared.entry.Entry.TheVariants.{Opened, Queue, Begin, Apply, Read, Finish}
+use Rattle.mz_kv_log.specs.declared.entry.Answered.{Answered}
+use Rattle.mz_kv_log.specs.Log.{Log, Command}
+use Rattle.mz_kv_log.specs.Sequential.{after_statement, answers_to, after_answers}
+use Rattle.mz_kv_log.specs.Tables.{table_at}
 use Rattle.mz_shell.specs.declared.table.Write.{Write}
 use Rattle.mz_shell.specs.declared.world.Waiting.{Waiting}
 use Rattle.mz_shell.specs.State.{State, with_rows, merged, unmerged, advanced, replied, applied, all_applied}

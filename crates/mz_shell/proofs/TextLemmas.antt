@@ -2,7 +2,7 @@
 use Rattle.std.proofs.Common.{◌≡◌, ℕ, Bool, true, false, ◌&&◌, List, [], ◌∷◌, sym, refl}
 use Rattle.std.specs.Str.{IsUtf8, is_utf8}
 use Rattle.std.specs.Char.{is_ascii_lowercase}
-use Rattle.mz_bag.specs.Name.{is_name}
+use Rattle.mz_value.specs.Name.{is_name}
 use Rattle.mz_shell.specs.ScriptLines.{is_session_name}
 use Rattle.std.proofs.lemmas.Str.{IsUtf8-from_is_utf8, is_utf8-from_IsUtf8}
 

@@ -2,7 +2,7 @@
 use Rattle.std.proofs.Common.{◌≡◌, ℕ, Bool, false, List, [], ◌∷◌, ◌++◌, refl, ap, sym, append_assoc, None, Some, ◌∙◌}
 use Rattle.std.specs.declared.option.Option.{Option}
 use Rattle.std.specs.Prelude.{is_some, true, not}
-use Rattle.mz_bag.specs.declared.datum.Datum.{Datum}
+use Rattle.mz_value.specs.declared.datum.Datum.{Datum}
 use Rattle.mz_shell.specs.Spelling.{tuple_of, rows_of, is_end, prepended}
 
 prepended_twice : (rows : List (List Datum)) (row : List Datum) (more : Option (List (List Datum)))

@@ -2,16 +2,16 @@
 use Rattle.std.proofs.Common.{◌≡◌, ℕ, suc, ◌+◌, ◌^◌, ◌<◌, ◌≤◌, Bool, true, false, cond, eqb, ℤ, pos, ◌≤ℤ◌, List, [], ◌∷◌, ◌++◌, length, slice_get, Some, sym, ap, subst, ◌∙◌, length-append, le_refl, arith}
 use Rattle.std.proofs.lemmas.List.Sums.{sum_by-append}
 use Rattle.std.specs.List.{AllByRecursion}
-use Rattle.mz_bag.specs.declared.statement.Statement.{Statement}
+use Rattle.mz_kv_log.specs.declared.statement.Statement.{Statement}
 use Rattle.mz_bag.specs.Bag.{Counts}
 use Rattle.mz_bag.specs.Weighted.{Weighted, bag_of}
 use Rattle.mz_bag.proofs.BagLaws.{count_in-bag_of, count-not_negative, count-at_most_length}
-use Rattle.mz_log.specs.declared.entry.Entry.TheVariants.{Opened, Queue, Read, Finish}
-use Rattle.mz_log.specs.Log.{Log, Command}
-use Rattle.mz_log.specs.Rounds.{read_time, last_time, queued}
-use Rattle.mz_log.specs.Sessions.{calls_made}
-use Rattle.mz_log.specs.Sequential.{after_answers}
-use Rattle.mz_log.specs.Tables.{table_at}
+use Rattle.mz_kv_log.specs.declared.entry.Entry.TheVariants.{Opened, Queue, Read, Finish}
+use Rattle.mz_kv_log.specs.Log.{Log, Command}
+use Rattle.mz_kv_log.specs.Rounds.{read_time, last_time, queued}
+use Rattle.mz_kv_log.specs.Sessions.{calls_made}
+use Rattle.mz_kv_log.specs.Sequential.{after_answers}
+use Rattle.mz_kv_log.specs.Tables.{table_at}
 use Rattle.mz_shell.specs.declared.world.Session.{Session}
 use Rattle.mz_shell.specs.Machine.{Machine, replies, committed as committed_log}
 use Rattle.mz_shell.specs.ScriptLines.{longest_line}

@@ -1,7 +1,7 @@
 -- The steps of the program's state, as its parts make them.
 use Rattle.std.proofs.Common.{◌≡◌, ℕ, ◌+◌, true, nat_le, List, [], ◌∷◌, ◌++◌, refl, ap, sym, subst, ◌∙◌, append_assoc, arith}
 use Rattle.mz_bag.specs.Bag.{Counts}
-use Rattle.mz_log.specs.declared.entry.PendingRead.{PendingRead}
+use Rattle.mz_kv_log.specs.declared.entry.PendingRead.{PendingRead}
 use Rattle.mz_shell.specs.declared.table.Write.{Write}
 use Rattle.mz_shell.specs.State.{State, with_rows, merged, unmerged, is_due, round_begun, all_applied, none_waiting, finished, finished_text, all_finished, all_finished_text}
 use Rattle.mz_shell.specs.Ready.{HasRoomFor, IsReady, IsSettling, rows_written}

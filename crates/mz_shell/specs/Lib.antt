@@ -9,4 +9,4 @@ pub mod Ready
 pub mod Stands
 pub mod World
 pub mod Reading
-pub mod Answers
+pub mod Runs

@@ -4,21 +4,21 @@ use Rattle.std.specs.declared.option.Option.{Option}
 use Rattle.std.specs.Str.{bytes_eq}
 use Rattle.std.specs.FinMap.{entries}
 use Rattle.mz_bag.specs.Weighted.{Weighted, bag_of}
-use Rattle.mz_bag.specs.declared.statement.Statement.{Statement}
-use Rattle.mz_log.specs.declared.entry.Entry.{Entry}
-use Rattle.mz_log.specs.declared.entry.Entry.TheVariants.{Opened, Queue, Begin, Apply, Read, Finish}
-use Rattle.mz_log.specs.declared.entry.Answered.{Answered}
-use Rattle.mz_log.specs.declared.entry.Reply.{Reply}
-use Rattle.mz_log.specs.declared.entry.Reply.TheVariants.{Inserted, Rows}
-use Rattle.mz_log.specs.Log.{Log}
-use Rattle.mz_log.specs.Rounds.{read_time, last_time, rounds, queued}
-use Rattle.mz_log.specs.Sessions.{sessions}
-use Rattle.mz_log.specs.declared.entry.PendingRead.{PendingRead}
-use Rattle.mz_log.specs.Reads.{pending}
-use Rattle.mz_log.specs.Sequential.{answers_to}
-use Rattle.mz_log.specs.Tables.{table_at}
-use Rattle.mz_log.specs.Submission.{Outcome, Busy, Accepted, outcome}
-use Rattle.mz_log.specs.Legal.{most_sessions}
+use Rattle.mz_kv_log.specs.declared.statement.Statement.{Statement}
+use Rattle.mz_kv_log.specs.declared.entry.Entry.{Entry}
+use Rattle.mz_kv_log.specs.declared.entry.Entry.TheVariants.{Opened, Queue, Begin, Apply, Read, Finish}
+use Rattle.mz_kv_log.specs.declared.entry.Answered.{Answered}
+use Rattle.mz_kv_log.specs.declared.entry.Reply.{Reply}
+use Rattle.mz_kv_log.specs.declared.entry.Reply.TheVariants.{Inserted, Rows}
+use Rattle.mz_kv_log.specs.Log.{Log}
+use Rattle.mz_kv_log.specs.Rounds.{read_time, last_time, rounds, queued}
+use Rattle.mz_kv_log.specs.Sessions.{sessions}
+use Rattle.mz_kv_log.specs.declared.entry.PendingRead.{PendingRead}
+use Rattle.mz_kv_log.specs.Reads.{pending}
+use Rattle.mz_kv_log.specs.Sequential.{answers_to}
+use Rattle.mz_kv_log.specs.Tables.{table_at}
+use Rattle.mz_kv_log.specs.Submission.{Outcome, Busy, Accepted, outcome}
+use Rattle.mz_kv_log.specs.Legal.{most_sessions}
 use Rattle.mz_shell.specs.declared.script_line.ScriptLine.{ScriptLine}
 use Rattle.mz_shell.specs.declared.script_line.ScriptLine.TheVariants.{Skipped, Unbuilt, Says, Commit, Settle}
 use Rattle.mz_shell.specs.ScriptLines.{line_says}

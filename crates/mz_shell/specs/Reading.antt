@@ -9,7 +9,7 @@ use Rattle.mz_shell.specs.Lines.{lines_of, whole_lines}
 use Rattle.mz_shell.specs.Machine.{Machine}
 use Rattle.mz_shell.specs.State.{State, fresh, lines_state, lines_said}
 use Rattle.mz_shell.specs.Stands.{StandsFor}
-use Rattle.mz_shell.specs.Answers.{longest_input, IsFinished, StopsScript}
+use Rattle.mz_shell.specs.Runs.{longest_input, IsFinished, StopsScript}
 
 -- the state stands for a machine, and so many more lines are within every bound
 pub record IsSound (state : State) (lines : ℕ) : Type 0 where

@@ -1,7 +1,7 @@
 -- What the program's state keeps from line to line, so that no step of it goes out of range.
 use Rattle.std.specs.Prelude.{◌≡◌, ℕ, ◌+◌, ◌^◌, ◌<◌, ◌≤◌, pos, ◌≤ℤ◌, List, length, sum_by}
 use Rattle.std.specs.List.{AllByRecursion}
-use Rattle.mz_bag.specs.declared.datum.Datum.{Datum}
+use Rattle.mz_value.specs.declared.datum.Datum.{Datum}
 use Rattle.mz_bag.specs.Bag.{Counts, count_in}
 use Rattle.mz_shell.specs.declared.table.Write.{Write}
 use Rattle.mz_shell.specs.declared.world.Waiting.{Waiting}

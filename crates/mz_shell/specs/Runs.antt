@@ -4,8 +4,8 @@ use Rattle.std.specs.declared.option.Option.{Option}
 use Rattle.std.specs.Io.KnownBytes.{Appends, Consumes, IsAtEnd}
 use Rattle.mz_io.specs.Causes.{Rose}
 use Rattle.mz_io.specs.Written.{AppendsFront}
-use Rattle.mz_log.specs.Legal.{Legal}
-use Rattle.mz_log.specs.History.{Replays}
+use Rattle.mz_kv_log.specs.Legal.{Legal}
+use Rattle.mz_kv_log.specs.History.{Replays}
 use Rattle.mz_shell.specs.declared.script.Stop.{Stop}
 use Rattle.mz_shell.specs.declared.script.Stop.TheVariants.{Source, Sink, Memory, TooLong}
 use Rattle.mz_shell.specs.Lines.{whole_lines}
@@ -40,17 +40,23 @@ pub record IsCutOff (left left' written written' : Option (List ℕ)) : Type 0 w
   pub within : length read ≤ longest_input
   pub wrote : Appends written written' (transcript (whole_lines read))
 
--- these are the lines that count of what was read: the whole ones, and at the end of the input a last one without LF too
-abbrev pub IsCounted : List ℕ → Option (List ℕ) → List ℕ → Type 0
-IsCounted read left script = (script ≡ whole_lines read) ⊎ ((script ≡ read) × IsAtEnd left)
+-- all that was read counts, a last line without LF too: it is no longer than a script may be, and was read to the end
+pub record IsWhole (read : List ℕ) (left : Option (List ℕ)) (script : List ℕ) : Type 0 where
+  pub all : script ≡ read
+  pub within : length read ≤ longest_input
+  pub at_end : IsAtEnd left
 
--- the input was read up to some place, of which at most the longest input counts, and a front of the transcript of the lines
--- that count was written
+-- these are the lines that count of what was read: the whole ones within the limit, or all of it. A line that the limit has
+-- cut never counts
+abbrev pub IsCounted : List ℕ → Option (List ℕ) → List ℕ → Type 0
+IsCounted read left script = (script ≡ whole_lines (take longest_input read)) ⊎ IsWhole read left script
+
+-- the input was read up to some place, and a front of the transcript of the lines that count was written
 pub record IsPartWritten (left left' written written' : Option (List ℕ)) : Type 0 where
   pub read : List ℕ
   pub consumed : Consumes left left' read
   pub script : List ℕ
-  pub counted : IsCounted (take longest_input read) left' script
+  pub counted : IsCounted read left' script
   pub wrote : AppendsFront written written' (transcript script)
 
 -- more bytes came than a script may have, and the transcript of the whole lines within the limit was written
@@ -92,8 +98,3 @@ pub record IsRefusal (written written' : Option (List ℕ)) (sink sink' status :
   pub known : (status ≡ 2) ⊎ (status ≡ 4)
   pub refused : status ≡ 2 → Appends written written' usage
   pub sink_failed : status ≡ 4 → AppendsFront written written' usage × Rose sink sink'
-
--- what refused words are answered; the source is not read
-pub record IsUsageAnswer (left left' written written' : Option (List ℕ)) (sink sink' status : ℕ) : Type 0 where
-  pub unread : left' ≡ left
-  pub refusal : IsRefusal written written' sink sink' status

@@ -4,8 +4,8 @@ use Rattle.std.specs.List.{starts_with}
 use Rattle.std.specs.declared.option.Option.{Option}
 use Rattle.std.specs.Char.{is_ascii_lowercase}
 use Rattle.std.specs.Str.{bytes_eq, is_utf8}
-use Rattle.mz_bag.specs.Name.{is_name}
-use Rattle.mz_bag.specs.declared.statement.Statement.{Statement}
+use Rattle.mz_value.specs.Name.{is_name}
+use Rattle.mz_kv_log.specs.declared.statement.Statement.{Statement}
 use Rattle.mz_shell.specs.Spelling.{before_suffix, statement_of}
 use Rattle.mz_shell.specs.declared.script_line.ScriptLine.{ScriptLine}
 use Rattle.mz_shell.specs.declared.script_line.ScriptLine.TheVariants.{Skipped, Unbuilt, Says, Commit, Settle}

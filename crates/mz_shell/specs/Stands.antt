@@ -1,16 +1,16 @@
 -- When the program's state stands for the machine of a script.
 use Rattle.std.specs.Prelude.{◌≡◌, ℕ, ◌+◌, ◌*◌, ◌<◌, ◌≤◌, List, [], ◌∷◌, ◌++◌, nat_le, length, map, None, Some, if◌then◌else◌, slice_get, sum_by}
 use Rattle.std.specs.List.{AllByRecursion}
-use Rattle.mz_bag.specs.declared.statement.Statement.{Statement}
-use Rattle.mz_bag.specs.declared.statement.Statement.TheVariants.{Insert, Select}
+use Rattle.mz_kv_log.specs.declared.statement.Statement.{Statement}
+use Rattle.mz_kv_log.specs.declared.statement.Statement.TheVariants.{Insert, Select}
 use Rattle.mz_bag.specs.Weighted.{Weighted, bag_of, each_once}
-use Rattle.mz_log.specs.declared.entry.PendingRead.{PendingRead}
-use Rattle.mz_log.specs.Log.{Log, Command}
-use Rattle.mz_log.specs.Rounds.{read_time, last_time, rounds, queued, open_round}
-use Rattle.mz_log.specs.Sessions.{sessions, calls_made, outstanding}
-use Rattle.mz_log.specs.Reads.{peeks, pending}
-use Rattle.mz_log.specs.Tables.{table_at}
-use Rattle.mz_log.specs.Legal.{Legal}
+use Rattle.mz_kv_log.specs.declared.entry.PendingRead.{PendingRead}
+use Rattle.mz_kv_log.specs.Log.{Log, Command}
+use Rattle.mz_kv_log.specs.Rounds.{read_time, last_time, rounds, queued, open_round}
+use Rattle.mz_kv_log.specs.Sessions.{sessions, calls_made, outstanding}
+use Rattle.mz_kv_log.specs.Reads.{peeks, pending}
+use Rattle.mz_kv_log.specs.Tables.{table_at}
+use Rattle.mz_kv_log.specs.Legal.{Legal}
 use Rattle.mz_shell.specs.declared.table.Write.{Write}
 use Rattle.mz_shell.specs.declared.world.Session.{Session}
 use Rattle.mz_shell.specs.declared.world.Waiting.{Waiting}

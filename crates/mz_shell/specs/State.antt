@@ -3,12 +3,12 @@ use Rattle.std.specs.Prelude.{ℕ, ◌+◌, ◌-◌, pos, ◌+ℤ◌, List, [], 
 use Rattle.std.specs.Str.{bytes_eq}
 use Rattle.std.specs.declared.option.Option.{Option}
 use Rattle.std.specs.FinMap.{entries, empty}
-use Rattle.mz_bag.specs.declared.datum.Datum.{Datum}
-use Rattle.mz_bag.specs.declared.statement.Statement.{Statement}
-use Rattle.mz_bag.specs.declared.statement.Statement.TheVariants.{Insert, Select}
+use Rattle.mz_value.specs.declared.datum.Datum.{Datum}
+use Rattle.mz_kv_log.specs.declared.statement.Statement.{Statement}
+use Rattle.mz_kv_log.specs.declared.statement.Statement.TheVariants.{Insert, Select}
 use Rattle.mz_bag.specs.Bag.{Counts, count_in, with_count}
-use Rattle.mz_log.specs.declared.entry.PendingRead.{PendingRead}
-use Rattle.mz_log.specs.Legal.{most_sessions}
+use Rattle.mz_kv_log.specs.declared.entry.PendingRead.{PendingRead}
+use Rattle.mz_kv_log.specs.Legal.{most_sessions}
 use Rattle.mz_shell.specs.declared.table.Write.{Write}
 use Rattle.mz_shell.specs.declared.world.Session.{Session}
 use Rattle.mz_shell.specs.declared.world.Waiting.{Waiting}

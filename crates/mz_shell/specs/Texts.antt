@@ -1,8 +1,8 @@
 -- The texts of events. Each line ends with LF; numbers are decimal.
 use Rattle.std.specs.Prelude.{ℕ, ℤ, ◌==◌, List, [], ◌∷◌, ◌++◌, true, false, if◌then◌else◌, length, codes}
 use Rattle.std.specs.Fmt.{decimal, signed_decimal}
-use Rattle.mz_bag.specs.declared.datum.Datum.{Datum}
-use Rattle.mz_bag.specs.declared.datum.Datum.TheVariants.{Int, Text, Bool as Truth, Wide}
+use Rattle.mz_value.specs.declared.datum.Datum.{Datum}
+use Rattle.mz_value.specs.declared.datum.Datum.TheVariants.{Int, Text, Bool as Truth, Wide}
 
 -- the end of a line
 abbrev pub line_end : List ℕ

@@ -1,6 +1,6 @@
 -- What a script comes to: its transcript and its log.
 use Rattle.std.specs.Prelude.{ℕ, List, [], ◌∷◌, ◌++◌}
-use Rattle.mz_log.specs.Log.{Log}
+use Rattle.mz_kv_log.specs.Log.{Log}
 use Rattle.mz_shell.specs.Lines.{lines_of}
 use Rattle.mz_shell.specs.Machine.{Machine, opening, after_line, line_text}
 

@@ -1,7 +1,7 @@
 //! Scripts: reads sessions' statements, commits and settles them in rounds, and writes the transcript.
 //! Promises by `run` that the transcript is the one that the definitions in `specs/` give, and that its log is legal and replays.
-//! Stands on `mz_io` for the ends of the outside, `mz_bag` for values, `mz_log` for the words of the log, `mz_laws` for what every
-//! legal log keeps, and `mz_time` for times; `coordinate` stands on it.
+//! Stands on `mz_io` for the ends of the outside, `mz_value` and `mz_bag` for rows, `mz_kv_log` for the words of the log, `mz_kv_laws` for
+//! what every legal log keeps, and `mz_time` for times; `coordinate` stands on it.
 #![tactic(auto)]
 
 mod lines;
@@ -10,8 +10,6 @@ mod script_line;
 mod spelling;
 mod status;
 mod table;
-#[cfg(test)]
-mod tests;
 mod texts;
 mod top;
 mod words;

@@ -8,7 +8,7 @@ ghost use Rattle.mz_shell.specs.declared.script.Stop.TheVariants as Stop;
 ghost use Rattle.mz_shell.specs.World.{state_of};
 ghost use Rattle.mz_shell.specs.State.{fresh, lines_state, lines_said};
 ghost use Rattle.mz_shell.specs.Lines.{lines_of, whole_lines};
-ghost use Rattle.mz_shell.specs.Answers.{longest_input, IsFinished, StopsScript, ClosesAs, IsScriptAnswer};
+ghost use Rattle.mz_shell.specs.Runs.{longest_input, IsFinished, StopsScript, ClosesAs, IsScriptAnswer};
 ghost use Rattle.mz_shell.specs.Reading.{IsSound, IsGoing, IsNext, completed, left_waiting, StopsAnswer};
 
 use crate::lines::{first_line, split_whole};

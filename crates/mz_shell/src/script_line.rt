@@ -5,7 +5,8 @@ ghost use Rattle.mz_shell.specs.ScriptLines.{line_says, text_says, session_says,
 
 use crate::lines::place_of;
 use crate::spelling::statement;
-use mz_bag::{Name, Statement, is_name};
+use mz_kv_log::Statement;
+use mz_value::{Name, is_name};
 use std::alloc::{AllocError, Global};
 
 /// What a line of a script says.

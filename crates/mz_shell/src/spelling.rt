@@ -4,7 +4,8 @@ ghost use Rattle.std.specs.Option.{option_copied};
 ghost use Rattle.mz_shell.specs.Spelling.{literal_of, tuple_end, tuple_of, rows_of, statement_of, words_of, after_prefix, before_suffix};
 
 use crate::lines::place_of;
-use mz_bag::{Datum, Row, Rows, Statement};
+use mz_kv_log::Statement;
+use mz_value::{Datum, Row, Rows};
 use std::alloc::{AllocError, Global};
 
 // What follows the prefix, where the text begins with it.

@@ -4,8 +4,9 @@ ghost use Rattle.std.specs.FinMap.{empty, entries};
 ghost use Rattle.mz_shell.specs.State.{with_rows, merged, unmerged, is_due};
 ghost use Rattle.mz_shell.specs.Ready.{HasRoomFor, rows_written};
 
-use mz_bag::{Bag, CountedRows, Row, Rows};
+use mz_bag::{Bag, CountedRows};
 use mz_time::Time;
+use mz_value::{Row, Rows};
 use std::alloc::{AllocError, Global};
 use std::collections::VecDeque;
 

@@ -1,10 +1,11 @@
 //! Writes the texts of events behind a text.
 ghost use Rattle.std.specs.Prelude.{◌≡◌, ◌++◌, OnOk, string_bytes};
-ghost use Rattle.mz_bag.specs.declared.datum.Datum.TheVariants as Datum;
+ghost use Rattle.mz_value.specs.declared.datum.Datum.TheVariants as Datum;
 ghost use Rattle.mz_shell.specs.Texts.{unbuilt_text, full_text, busy_text, queued_text, reading_text, round_text, inserted_text, found_text, datum_text, more_data_text, data_text, row_text, rows_text, read_text, doubled};
 
-use mz_bag::{CountedRows, Datum, Name, Row, Text};
+use mz_bag::CountedRows;
 use mz_time::Time;
+use mz_value::{Datum, Name, Row, Text};
 use std::alloc::AllocError;
 
 /// A line of a script that isn't built.

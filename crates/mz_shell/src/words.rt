@@ -1,8 +1,8 @@
 //! The words of the command line.
 ghost use Rattle.std.specs.Prelude.{◌≡◌, ◌↔◌, IsTrue};
-ghost use Rattle.mz_shell.specs.Answers.{script_words};
+ghost use Rattle.mz_shell.specs.Runs.{script_words};
 
-use mz_bag::Text;
+use mz_value::Text;
 use std::marker::Model;
 
 /// The words behind the program's name, in order.

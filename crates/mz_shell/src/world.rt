@@ -14,9 +14,9 @@ use crate::texts::{
     write_unbuilt,
 };
 use indexmap::IndexSet;
-use mz_bag::{Name, Rows, Statement};
-use mz_log::PendingRead;
+use mz_kv_log::{PendingRead, Statement};
 use mz_time::Time;
+use mz_value::{Name, Rows};
 use std::alloc::{AllocError, Global};
 use std::collections::VecDeque;
 use std::mem;

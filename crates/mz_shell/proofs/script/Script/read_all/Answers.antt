@@ -1,7 +1,7 @@
 -- Each piece goes on from what was read before it.
 use Rattle.std.proofs.Common.{arith}
 use Rattle.mz_shell.specs.World.{state_of}
-use Rattle.mz_shell.specs.Answers.{longest_input}
+use Rattle.mz_shell.specs.Runs.{longest_input}
 use Rattle.mz_shell.proofs.StreamLemmas.{going_fresh, going_sound, stops_earlier}
 use Rattle.mz_shell.proofs.script.Script.read_all.Goals as goal
 

@@ -1,7 +1,7 @@
 -- what was read so far was answered, and neither count of faults has fallen
 use Rattle.std.proofs.Common.{◌-◌, ◌≤◌}
 use Rattle.mz_shell.specs.World.{state_of}
-use Rattle.mz_shell.specs.Answers.{longest_input}
+use Rattle.mz_shell.specs.Runs.{longest_input}
 use Rattle.mz_shell.specs.Reading.{IsGoing}
 use Rattle.mz_shell.proofs.script.Script.read_all.Given as goal
 
