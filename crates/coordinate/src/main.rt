@@ -1,11 +1,11 @@
 //! The program: its words, its input and its output are handed to `mz_shell::run`, and it ends with the status of that.
 //! Promises nothing of its own; `run` says what is read, what is written and which status that has.
-//! Stands on `mz_shell`, on `mz_io` for both ends and on `mz_bag` for the words.
+//! Stands on `mz_shell`, on `mz_io` for both ends and on `mz_value` for the words.
 #![tactic(auto)]
 
-use mz_bag::Text;
 use mz_io::{ReadSource, WriteSink};
 use mz_shell::{NO_MEMORY, Words, run};
+use mz_value::Text;
 use std::alloc::AllocError;
 use std::env;
 use std::process::ExitCode;

@@ -6,7 +6,7 @@
 mod plan_text;
 mod session;
 
-use mz_bag::Text;
+use mz_value::Text;
 use session::Session;
 use std::io;
 use std::io::{BufRead, BufReader, BufWriter, Write};

@@ -1,8 +1,8 @@
 //! Plans and conditions as they are printed.
 
-use mz_bag::Datum;
 use mz_plan::{Aggregate, Cond, Operand, Plan};
 use mz_statement::Op;
+use mz_value::Datum;
 use std::alloc::{AllocError, Global};
 
 // The sign of a comparison.

@@ -1,18 +1,16 @@
 //! A catalog that statements change, and what each of them is answered.
 ghost use Rattle.std.specs.Prelude.{◌≡◌, true};
-ghost use Rattle.mz_bag.specs.Name.{is_name};
+ghost use Rattle.mz_value.specs.Name.{is_name};
 
 use crate::plan_text::{push_condition, push_plan};
-use mz_bag::{Name, Text};
 use mz_catalog::{Catalog, CatalogFault};
-use mz_plan::{CallFault, Item, ItemKind, Limited, Plan, Refusal, Resolved};
+use mz_plan::{Item, ItemKind, Resolved};
+use mz_refusal::{CallFault, Limited, Refusal};
 use mz_resolve::resolve;
 use mz_sql::{ParseFault, parse};
-use mz_statement::{Column, ColumnType, Columns, Statement};
+use mz_statement::{Column, ColumnType, Columns};
+use mz_value::{Name, Text};
 use std::alloc::{AllocError, Global};
-
-// The number of items that may be made.
-const MOST: u64 = 1 << 62;
 
 /// The items, and the cluster whose indexes are used.
 #[derive(Drop)]
@@ -21,39 +19,26 @@ pub struct Session {
     cluster: u64,
 }
 
-// The refusal that a fault of a text is.
-fn parse_refusal(fault: ParseFault) -> Result<Refusal, AllocError> {
+// A fault of a text, as one of a call.
+fn parse_fault(fault: ParseFault) -> CallFault {
     match fault {
-        ParseFault::Syntax { at } => Ok(Refusal::Syntax { at }),
-        ParseFault::LiteralRange { at } => Ok(Refusal::LiteralRange { at }),
-        ParseFault::Memory => Err(AllocError),
+        ParseFault::Syntax { at } => CallFault::Refused(Refusal::Syntax { at }),
+        ParseFault::LiteralRange { at } => CallFault::Refused(Refusal::LiteralRange { at }),
+        ParseFault::Memory => CallFault::Memory,
     }
 }
 
-// The refusal that a fault of the catalog is.
-fn catalog_refusal(fault: CatalogFault) -> Result<Refusal, AllocError> {
+// A fault of the catalog, as one of a call.
+fn catalog_fault(fault: CatalogFault) -> CallFault {
     match fault {
-        CatalogFault::NameTaken { name } => Ok(Refusal::NameTaken { name }),
-        CatalogFault::TooMany { limit } => Ok(Refusal::TooMany {
+        CatalogFault::NameTaken { name } => CallFault::Refused(Refusal::NameTaken { name }),
+        CatalogFault::TooMany { limit } => CallFault::Refused(Refusal::TooMany {
             what: Limited::Items,
             limit,
         }),
-        CatalogFault::HasDependents { name } => Ok(Refusal::HasDependents { name }),
-        CatalogFault::Memory => Err(AllocError),
+        CatalogFault::HasDependents { name } => CallFault::Refused(Refusal::HasDependents { name }),
+        CatalogFault::Memory => CallFault::Memory,
     }
-}
-
-// The refusal of a column whose name an earlier one has.
-fn taken(alloc: Global, name: &Name) -> Result<Refusal, AllocError> {
-    Ok(Refusal::NameTaken {
-        name: name.try_copy(alloc)?,
-    })
-}
-
-// What is printed of a refusal.
-fn refused(alloc: Global, refusal: &Refusal) -> Result<String, AllocError> {
-    let number = refusal.number();
-    format!(in alloc; "refused {number}{refusal}")
 }
 
 // An INT column of this name.
@@ -67,11 +52,16 @@ fn int_column(alloc: Global, name: &[u8]) -> Result<Column, AllocError>
 }
 
 // The table `kv`, which is there from the beginning, with the INT columns `k` and `v`.
-fn kv(alloc: Global) -> Result<ItemKind, AllocError> {
+fn kv(alloc: Global) -> Result<Item, AllocError> {
     let mut columns = Vec::new(alloc);
     columns.push(int_column(alloc, b"k".as_slice())?)?;
     columns.push(int_column(alloc, b"v".as_slice())?)?;
-    Ok(ItemKind::Table(Columns::from_vec(columns)))
+    Ok(Item {
+        id: 0,
+        name: Name::new(alloc, b"kv".as_slice())?,
+        cluster: 0,
+        kind: ItemKind::Table(Columns::from_vec(columns)),
+    })
 }
 
 // The number behind `cluster `, where the line is such a one.
@@ -116,142 +106,128 @@ fn twin(columns: &[Column]) -> Option<&Column> {
     None
 }
 
-// What is printed of a command or a query that changes no items.
-fn asked(alloc: Global, resolved: &Resolved) -> Result<String, AllocError> {
+// The columns that a command gives names.
+fn columns_named(resolved: &Resolved) -> &[Column] {
     match resolved {
+        Resolved::CreateTable(_, columns) => columns.as_slice(),
+        Resolved::CreateView(_, columns, _) => columns.as_slice(),
+        _ => &[],
+    }
+}
+
+// A column whose name an earlier one has is refused.
+fn check_columns(alloc: Global, columns: &[Column]) -> Result<(), CallFault> {
+    match twin(columns) {
+        Some(column) => Err(CallFault::Refused(Refusal::NameTaken {
+            name: column.name.try_copy(alloc)?,
+        })),
+        None => Ok(()),
+    }
+}
+
+// What is printed of what is asked for. Of an item that is made it stands behind its number.
+fn shown(alloc: Global, resolved: &Resolved) -> Result<String, AllocError> {
+    let mut text = String::new(alloc);
+    match resolved {
+        Resolved::CreateTable(_, _) => {}
+        Resolved::CreateView(_, columns, _) => {
+            text.push_str(" (")?;
+            push_columns(alloc, &mut text, columns.as_slice())?;
+            text.push_str(")")?;
+        }
+        Resolved::CreateIndex(_, on, plan, _) => {
+            write!(text, " on {on}: ")?;
+            push_plan(alloc, &mut text, plan)?;
+        }
+        Resolved::Drop(id) => write!(text, "dropped {id}")?,
         Resolved::Insert(table, rows) => {
             let count = rows.len();
-            format!(in alloc; "insert {count} into {table}")
+            write!(text, "insert {count} into {table}")?;
         }
-        Resolved::Delete(table, cond) => {
-            let mut text = format!(in alloc; "delete from {table}")?;
-            if let Some(cond) = cond {
-                text.push_str(" where ")?;
-                push_condition(alloc, &mut text, cond)?;
-            }
-            Ok(text)
+        Resolved::Delete(table, None) => write!(text, "delete from {table}")?,
+        Resolved::Delete(table, Some(cond)) => {
+            write!(text, "delete from {table} where ")?;
+            push_condition(alloc, &mut text, cond)?;
         }
-        Resolved::Query(plan) => {
-            let mut text = String::new(alloc);
-            push_plan(alloc, &mut text, plan)?;
-            Ok(text)
-        }
-        _ => Ok(String::new(alloc)),
+        Resolved::Query(plan) => push_plan(alloc, &mut text, plan)?,
     }
+    Ok(text)
+}
+
+// The same, where the columns that are named have different names.
+fn said(alloc: Global, resolved: &Resolved) -> Result<String, CallFault> {
+    check_columns(alloc, columns_named(resolved))?;
+    Ok(shown(alloc, resolved)?)
+}
+
+// The item that a command makes.
+fn item_made(resolved: Resolved) -> Option<Item> {
+    let (name, cluster, kind) = match resolved {
+        Resolved::CreateTable(name, columns) => (name, 0, ItemKind::Table(columns)),
+        Resolved::CreateView(name, columns, query) => (name, 0, ItemKind::View(columns, query)),
+        Resolved::CreateIndex(name, on, plan, cluster) => {
+            (name, cluster, ItemKind::Index(on, plan))
+        }
+        _ => return None,
+    };
+    Some(Item {
+        id: 0,
+        name,
+        cluster,
+        kind,
+    })
 }
 
 impl Session {
     /// The session with the table `kv` alone, in cluster 0.
     pub fn fresh(alloc: Global) -> Result<Session, AllocError> {
-        let mut session = Session {
-            catalog: Catalog::empty(alloc),
-            cluster: 0,
-        };
-        let name = Name::new(alloc, b"kv".as_slice())?;
-        match session.add(name, 0, kv(alloc)?) {
-            Ok(_) => Ok(session),
+        let mut catalog = Catalog::empty(alloc);
+        match catalog.add(kv(alloc)?) {
+            Ok(_) => Ok(Session {
+                catalog,
+                cluster: 0,
+            }),
             Err(_) => Err(AllocError),
         }
     }
 
-    // Adds an item. No run makes so many that no number is left.
-    fn add(&mut self, name: Name, cluster: u64, kind: ItemKind) -> Result<u64, CatalogFault> {
-        if self.catalog.next() >= MOST {
-            return Err(CatalogFault::Memory);
-        }
-        self.catalog.add(Item {
-            id: 0,
-            name,
-            cluster,
-            kind,
-        })
-    }
-
-    // Adds a table, and says its number.
-    fn create_table(
-        &mut self,
-        alloc: Global,
-        name: Name,
-        columns: Columns,
-    ) -> Result<String, AllocError> {
-        if let Some(column) = twin(columns.as_slice()) {
-            return refused(alloc, &taken(alloc, &column.name)?);
-        }
-        match self.add(name, 0, ItemKind::Table(columns)) {
-            Ok(id) => format!(in alloc; "created {id}"),
-            Err(fault) => refused(alloc, &catalog_refusal(fault)?),
-        }
-    }
-
-    // Adds a view, and says its number and its columns.
-    fn create_view(
-        &mut self,
-        alloc: Global,
-        name: Name,
-        columns: Columns,
-        query: Statement,
-    ) -> Result<String, AllocError> {
-        if let Some(column) = twin(columns.as_slice()) {
-            return refused(alloc, &taken(alloc, &column.name)?);
-        }
-        let mut shown = String::new(alloc);
-        push_columns(alloc, &mut shown, columns.as_slice())?;
-        match self.add(name, 0, ItemKind::View(columns, query)) {
-            Ok(id) => format!(in alloc; "created {id} ({shown})"),
-            Err(fault) => refused(alloc, &catalog_refusal(fault)?),
-        }
-    }
-
-    // Adds an index, and says its number and its plan.
-    fn create_index(
-        &mut self,
-        alloc: Global,
-        name: Name,
-        on: u64,
-        plan: Plan,
-        cluster: u64,
-    ) -> Result<String, AllocError> {
-        let mut shown = String::new(alloc);
-        push_plan(alloc, &mut shown, &plan)?;
-        match self.add(name, cluster, ItemKind::Index(on, plan)) {
-            Ok(id) => format!(in alloc; "created {id} on {on}: {shown}"),
-            Err(fault) => refused(alloc, &catalog_refusal(fault)?),
-        }
-    }
-
-    // Removes an item, or says why it can't be removed.
-    fn remove(&mut self, alloc: Global, id: u64) -> Result<String, AllocError> {
+    // Removes an item.
+    fn remove(&mut self, id: u64) -> Result<(), CallFault> {
         if !self.catalog.contains(id) {
-            return Err(AllocError);
+            return Err(CallFault::Memory);
         }
-        match self.catalog.remove(id) {
-            Ok(()) => format!(in alloc; "dropped {id}"),
-            Err(fault) => refused(alloc, &catalog_refusal(fault)?),
-        }
+        self.catalog.remove(id).map_err(catalog_fault)
     }
 
-    // Does what is asked for, as far as it changes the items.
-    fn carry_out(&mut self, alloc: Global, resolved: Resolved) -> Result<String, AllocError> {
-        match resolved {
-            Resolved::CreateTable(name, columns) => self.create_table(alloc, name, columns),
-            Resolved::CreateView(name, columns, query) => {
-                self.create_view(alloc, name, columns, query)
-            }
-            Resolved::CreateIndex(name, on, plan, cluster) => {
-                self.create_index(alloc, name, on, plan, cluster)
-            }
-            Resolved::Drop(id) => self.remove(alloc, id),
-            other => asked(alloc, &other),
+    // Removes what a command removes, and says what is asked for.
+    fn remove_and_say(&mut self, alloc: Global, resolved: &Resolved) -> Result<String, CallFault> {
+        let said = said(alloc, resolved)?;
+        if let Resolved::Drop(id) = resolved {
+            self.remove(*id)?;
+        }
+        Ok(said)
+    }
+
+    // Adds an item, and says its number and what is said of it.
+    fn add_and_say(&mut self, alloc: Global, item: Item, said: &str) -> Result<String, CallFault> {
+        let id = self.catalog.add(item).map_err(catalog_fault)?;
+        Ok(format!(in alloc; "created {id}{said}")?)
+    }
+
+    // Does what is asked for, as far as it changes the items, and says it.
+    fn carry_out(&mut self, alloc: Global, resolved: Resolved) -> Result<String, CallFault> {
+        let said = self.remove_and_say(alloc, &resolved)?;
+        match item_made(resolved) {
+            Some(item) => self.add_and_say(alloc, item, said.as_str()),
+            None => Ok(said),
         }
     }
 
     // What a statement is answered.
-    fn explain(&mut self, alloc: Global, statement: &Statement) -> Result<String, AllocError> {
-        match resolve(alloc, statement, &self.catalog, self.cluster) {
-            Ok(resolved) => self.carry_out(alloc, resolved),
-            Err(CallFault::Refused(refusal)) => refused(alloc, &refusal),
-            Err(CallFault::Memory) => Err(AllocError),
-        }
+    fn explain(&mut self, alloc: Global, text: &Text) -> Result<String, CallFault> {
+        let statement = parse(alloc, text).map_err(parse_fault)?;
+        let resolved = resolve(alloc, &statement, &self.catalog, self.cluster)?;
+        self.carry_out(alloc, resolved)
     }
 
     /// What a line is answered: a statement by what it asks for, or by its refusal. A line that begins with
@@ -264,9 +240,10 @@ impl Session {
             self.cluster = cluster;
             return format!(in alloc; "cluster {cluster}");
         }
-        match parse(alloc, line) {
-            Ok(statement) => self.explain(alloc, &statement),
-            Err(fault) => refused(alloc, &parse_refusal(fault)?),
+        match self.explain(alloc, line) {
+            Ok(answer) => Ok(answer),
+            Err(CallFault::Memory) => Err(AllocError),
+            Err(fault) => format!(in alloc; "{fault}"),
         }
     }
 }

@@ -1,10 +1,11 @@
 //! The program that prints statements in their one form: each line of the input is a statement.
-//! Promises nothing of its own; `normalized` of `mz_sql` says what each line is answered.
-//! Stands on `mz_sql`, and on `mz_bag` for texts.
+//! Promises nothing of its own; `normalized` of `mz_sql` says what each line is answered. A line ends with LF, and one CR right
+//! before it is no part of the statement.
+//! Stands on `mz_sql`, and on `mz_value` for texts.
 #![tactic(auto)]
 
-use mz_bag::Text;
 use mz_sql::{ParseFault, normalized};
+use mz_value::Text;
 use std::alloc::{AllocError, Global};
 use std::io;
 use std::io::{BufRead, BufReader, BufWriter, Write};
