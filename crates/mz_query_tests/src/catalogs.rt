@@ -37,15 +37,6 @@ fn index(rt: &impl Abort, alloc: Global, text: &str, on: u64) -> Result<Item, Al
     })
 }
 
-// Two tables, and an index on the first one.
-fn small(rt: &impl Abort, alloc: Global) -> Result<Catalog, CatalogFault> {
-    let mut catalog = Catalog::empty(alloc);
-    catalog.add(table(rt, alloc, "t")?)?;
-    catalog.add(table(rt, alloc, "u")?)?;
-    catalog.add(index(rt, alloc, "i", 1)?)?;
-    Ok(catalog)
-}
-
 // The number that an addition gave, or what it says of it.
 fn addition(alloc: Global, added: Result<u64, CatalogFault>) -> Result<String, AllocError> {
     match added {
@@ -70,70 +61,62 @@ fn removal(
     }
 }
 
-#[test]
-fn an_item_goes_only_before_what_it_reads(rt: HostRuntime) -> Result<(), Fail> {
-    let alloc = rt.alloc();
-    let mut catalog = small(&rt, alloc)?;
-    let removals = [
-        ("t", "i depends on it"),
-        ("u", ""),
-        ("u", "unknown"),
-        ("i", ""),
-        ("t", ""),
-    ];
-    for (text, wanted) in removals {
-        let says = removal(&rt, alloc, &mut catalog, text)?;
+// Adds two tables, and an index on the first one.
+fn fill(rt: &impl Abort, alloc: Global, catalog: &mut Catalog) -> Result<(), CatalogFault> {
+    catalog.add(table(rt, alloc, "t")?)?;
+    catalog.add(table(rt, alloc, "u")?)?;
+    catalog.add(index(rt, alloc, "i", 1)?)?;
+    Ok(())
+}
+
+// An item goes only before what it reads.
+fn take_apart(rt: &impl Abort, alloc: Global, catalog: &mut Catalog) -> Result<(), AllocError> {
+    for (text, wanted) in [("t", "i depends on it"), ("i", ""), ("i", "unknown")] {
+        let says = removal(rt, alloc, catalog, text)?;
         assert_eq!(rt; says.as_str(), wanted, "{text}");
     }
     Ok(())
 }
 
-#[test]
-fn a_number_is_used_once(rt: HostRuntime) -> Result<(), Fail> {
-    let alloc = rt.alloc();
-    let mut catalog = small(&rt, alloc)?;
-    removal(&rt, alloc, &mut catalog, "i")?;
-    let added = catalog.add(index(&rt, alloc, "i", 1)?);
+// A number is used once, and a name is one item's.
+fn refill(rt: &impl Abort, alloc: Global, catalog: &mut Catalog) -> Result<(), AllocError> {
+    let added = catalog.add(index(rt, alloc, "i", 1)?);
     assert_eq!(rt; addition(alloc, added)?.as_str(), "4");
-    let added = catalog.add(table(&rt, alloc, "i")?);
+    let added = catalog.add(table(rt, alloc, "i")?);
     assert_eq!(rt; addition(alloc, added)?.as_str(), "the name i is taken");
     Ok(())
 }
 
 #[test]
-fn copies_are_apart(rt: HostRuntime) -> Result<(), Fail> {
-    let alloc = rt.alloc();
-    let mut catalog = small(&rt, alloc)?;
-    let copy = catalog.try_copy()?;
-    removal(&rt, alloc, &mut catalog, "i")?;
-    assert!(rt; !catalog.contains(3));
-    assert!(rt; copy.contains(3));
-    assert_eq!(rt; copy.scope()?.items.as_slice().len(), 3);
+fn a_catalog_is_taken_apart_and_filled_again(rt: HostRuntime) -> Result<(), Fail> {
+    let mut catalog = Catalog::empty(rt.alloc());
+    fill(&rt, rt.alloc(), &mut catalog)?;
+    take_apart(&rt, rt.alloc(), &mut catalog)?;
+    refill(&rt, rt.alloc(), &mut catalog)?;
     Ok(())
 }
 
-#[test]
-fn the_oldest_index_goes_before_the_next_one(rt: HostRuntime) -> Result<(), Fail> {
-    let alloc = rt.alloc();
-    let mut catalog = small(&rt, alloc)?;
-    catalog.add(index(&rt, alloc, "k", 1)?)?;
-    assert_eq!(rt; catalog.oldest_index(1, 0), Some(3));
-    removal(&rt, alloc, &mut catalog, "i")?;
-    assert_eq!(rt; catalog.oldest_index(1, 0), Some(4));
-    assert_eq!(rt; catalog.oldest_index(1, 1), None);
+// Adds as many tables as there may be.
+fn crowd(rt: &impl Abort, alloc: Global, catalog: &mut Catalog) -> Result<(), CatalogFault> {
+    for place in 0..MOST_ITEMS {
+        let text = format!(in alloc; "t{place}")?;
+        catalog.add(table(rt, alloc, text.as_str())?)?;
+    }
+    Ok(())
+}
+
+// There are no more than these.
+fn overcrowd(rt: &impl Abort, alloc: Global, catalog: &mut Catalog) -> Result<(), AllocError> {
+    let added = catalog.add(table(rt, alloc, "t")?);
+    assert_eq!(rt; addition(alloc, added)?.as_str(), "there are 1024 items");
+    assert_eq!(rt; catalog.find(&name(rt, alloc, "t1023")?), Some(1024));
     Ok(())
 }
 
 #[test]
 fn there_are_no_more_items_than_may_be(rt: HostRuntime) -> Result<(), Fail> {
-    let alloc = rt.alloc();
-    let mut catalog = Catalog::empty(alloc);
-    for place in 0..MOST_ITEMS {
-        let text = format!(in alloc; "t{place}")?;
-        catalog.add(table(&rt, alloc, text.as_str())?)?;
-    }
-    let added = catalog.add(table(&rt, alloc, "t")?);
-    assert_eq!(rt; addition(alloc, added)?.as_str(), "there are 1024 items");
-    assert_eq!(rt; catalog.find(&name(&rt, alloc, "t1023")?), Some(1024));
+    let mut catalog = Catalog::empty(rt.alloc());
+    crowd(&rt, rt.alloc(), &mut catalog)?;
+    overcrowd(&rt, rt.alloc(), &mut catalog)?;
     Ok(())
 }

@@ -1,6 +1,6 @@
 //! Texts with their one form and with their faults, worked by hand.
 
-use mz_sql::{Asked, ParseFault, ask, normalized, parse, print};
+use mz_sql::{Asked, ParseFault, ask, normalized};
 use mz_statement::Statement;
 use mz_value::Text;
 use std::alloc::Global;
@@ -74,31 +74,6 @@ fn a_fault_is_handed_on(rt: HostRuntime) -> Result<(), Fail> {
     assert_eq!(rt; syntax, Some(ParseFault::Syntax { at: 9 }));
     let range = fault_of(rt.alloc(), "SELECT * FROM kv AS OF 9223372036854775808")?;
     assert_eq!(rt; range, Some(ParseFault::LiteralRange { at: 23 }));
-    Ok(())
-}
-
-// Whether the statement is read from its printed text.
-fn is_read_again(alloc: Global, statement: &Statement) -> Result<bool, Fail> {
-    match parse(alloc, &print(alloc, statement)?) {
-        Ok(again) => Ok(again == *statement),
-        Err(_) => Ok(false),
-    }
-}
-
-#[test]
-fn a_statement_within_the_limits_is_read_again(rt: HostRuntime) -> Result<(), Fail> {
-    let spelled = "DELETE FROM kv WHERE NOT (k = 1 AND v = 'x')";
-    let statement = parse(rt.alloc(), &text(rt.alloc(), spelled)?).expect(&rt, spelled);
-    assert!(rt; statement.is_statement());
-    assert!(rt; is_read_again(rt.alloc(), &statement)?);
-    Ok(())
-}
-
-#[test]
-fn a_statement_that_no_text_spells_is_not_read_again(rt: HostRuntime) -> Result<(), Fail> {
-    let statement = Statement::SetIsolation(true);
-    assert!(rt; !statement.is_statement());
-    assert!(rt; !is_read_again(rt.alloc(), &statement)?);
     Ok(())
 }
 

@@ -49,24 +49,6 @@ fn tests(rt: &impl Abort, alloc: Global, spelled: &str, test: Test) -> Result<()
 }
 
 #[test]
-fn words_are_of_any_letters(rt: HostRuntime) -> Result<(), Fail> {
-    reads(&rt, rt.alloc(), "begin;", Statement::Start)?;
-    reads(&rt, rt.alloc(), " CoMMit ;", Statement::Commit)?;
-    reads(&rt, rt.alloc(), "show\tFrontiers", Statement::ShowFrontiers)
-}
-
-#[test]
-fn names_are_small(rt: HostRuntime) -> Result<(), Fail> {
-    let table = name(&rt, rt.alloc(), "kv")?;
-    reads(
-        &rt,
-        rt.alloc(),
-        "drop TABLE Kv",
-        Statement::DropTable(table),
-    )
-}
-
-#[test]
 fn columns_have_types(rt: HostRuntime) -> Result<(), Fail> {
     let first = Column {
         name: name(&rt, rt.alloc(), "a")?,
@@ -93,12 +75,6 @@ fn values_are_read(rt: HostRuntime) -> Result<(), Fail> {
         "insert into kv values(- 1,'it''s',TRUE)",
         statement,
     )
-}
-
-#[test]
-fn parentheses_may_be_too_many(rt: HostRuntime) -> Result<(), Fail> {
-    let test = compared(&rt, rt.alloc(), "k", Op::Ge)?;
-    tests(&rt, rt.alloc(), "delete from kv where((K>=1))", test)
 }
 
 #[test]
@@ -220,14 +196,6 @@ fn sixty_four_parentheses_may_be_open(rt: HostRuntime) -> Result<(), Fail> {
     let syntax = Some(ParseFault::Syntax { at: 85 });
     assert_eq!(rt; nested(rt.alloc(), 64, "(", ")")?, None);
     assert_eq!(rt; nested(rt.alloc(), 65, "(", ")")?, syntax);
-    Ok(())
-}
-
-#[test]
-fn sixty_four_nots_may_be_open(rt: HostRuntime) -> Result<(), Fail> {
-    let syntax = Some(ParseFault::Syntax { at: 277 });
-    assert_eq!(rt; nested(rt.alloc(), 64, "NOT ", "")?, None);
-    assert_eq!(rt; nested(rt.alloc(), 65, "NOT ", "")?, syntax);
     Ok(())
 }
 

@@ -71,13 +71,6 @@ fn lags_have_limits(rt: HostRuntime) -> Result<(), Fail> {
     Ok(())
 }
 
-#[test]
-fn times_have_limits(rt: HostRuntime) -> Result<(), Fail> {
-    assert!(rt; may_keep(&rt, rt.alloc(), Keep::From(9_223_372_036_854_775_807))?);
-    assert!(rt; !may_keep(&rt, rt.alloc(), Keep::From(9_223_372_036_854_775_808))?);
-    Ok(())
-}
-
 // Whether the grammar can spell an INSERT of a text of so many bytes.
 fn may_put(rt: &impl Abort, alloc: Global, length: u64) -> Result<bool, AllocError> {
     let mut text = String::new(alloc);
@@ -145,25 +138,10 @@ fn a_list_of_one_is_not_normal(rt: HostRuntime) -> Result<(), Fail> {
 }
 
 #[test]
-fn a_list_of_two_is_normal(rt: HostRuntime) -> Result<(), Fail> {
-    let test = Test::All(both(&rt, rt.alloc())?);
-    is_as(&rt, test, true, 0);
-    Ok(())
-}
-
-#[test]
 fn an_or_under_and_is_closed(rt: HostRuntime) -> Result<(), Fail> {
     let inner = Test::Any(both(&rt, rt.alloc())?);
     let test = Test::All(beside(&rt, rt.alloc(), inner)?);
     is_as(&rt, test, true, 1);
-    Ok(())
-}
-
-#[test]
-fn an_and_under_or_is_open(rt: HostRuntime) -> Result<(), Fail> {
-    let inner = Test::All(both(&rt, rt.alloc())?);
-    let test = Test::Any(beside(&rt, rt.alloc(), inner)?);
-    is_as(&rt, test, true, 0);
     Ok(())
 }
 

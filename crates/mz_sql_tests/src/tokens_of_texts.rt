@@ -55,16 +55,6 @@ fn signs_are_as_long_as_they_may(rt: HostRuntime) -> Result<(), Fail> {
 }
 
 #[test]
-fn each_sign_is_cut(rt: HostRuntime) -> Result<(), Fail> {
-    let list = tokens(rt.alloc(), "(),.*=<>-;")?;
-    assert_eq!(rt; list.len(), 9);
-    for token in list.as_slice() {
-        assert_eq!(rt; token.kind, Sign);
-    }
-    Ok(())
-}
-
-#[test]
 fn texts_are_cut(rt: HostRuntime) -> Result<(), Fail> {
     is_cut(&rt, rt.alloc(), "''", &[at(Quoted, 0, 2)])?;
     let doubled = [at(Quoted, 0, 7), at(Quoted, 8, 12), at(Word, 13, 14)];
