@@ -1,0 +1,4 @@
+pub mod Batch
+pub mod Carrying
+pub mod Consolidated
+pub mod Contents
