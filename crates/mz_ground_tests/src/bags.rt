@@ -14,7 +14,7 @@ fn text(alloc: Global, text: &str) -> Result<Datum, AllocError> {
     Ok(Datum::Text(Text::from_string(String::from_str(alloc, text)?)))
 }
 
-fn row(alloc: Global, number: i32, string: &str) -> Result<Row, AllocError> {
+pub fn row(alloc: Global, number: i32, string: &str) -> Result<Row, AllocError> {
     Ok(Row::from_vec(vec![in alloc; Datum::Int(number), text(alloc, string)?]?))
 }
 
@@ -29,7 +29,7 @@ fn add(rt: &impl Abort, bag: &mut Bag, row: Row, diff: i8) -> Result<(), AllocEr
     bag.add(row, i128::from(diff))
 }
 
-fn bag(rt: &impl Abort, alloc: Global, changes: &[(i32, &str, i8)]) -> Result<Bag, AllocError>
+pub fn bag(rt: &impl Abort, alloc: Global, changes: &[(i32, &str, i8)]) -> Result<Bag, AllocError>
     ensures { IfOk result (λ bag. (q : List Datum) → FitsSigned w32 (count_in bag q)) }
 {
     let mut bag = Bag::empty(alloc);

@@ -1,9 +1,13 @@
-//! The tests of values and bags: what no clause says of them.
+//! The tests of values, bags, updates and tables: what no clause says of them.
 //! Promises nothing by code, and has none. The tests stand apart from the crates that they try, so that a gate proves those once.
-//! Stands on `mz_value` and `mz_bag`.
+//! Stands on `mz_value`, `mz_bag`, `mz_updates` and `mz_tables`.
 #![tactic(auto)]
 
 #[cfg(test)]
 mod bags;
+#[cfg(test)]
+mod tables;
+#[cfg(test)]
+mod updates;
 #[cfg(test)]
 mod values;
