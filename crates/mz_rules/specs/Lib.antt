@@ -1,0 +1,10 @@
+pub mod Capabilities
+pub mod Exact
+pub mod Frontiers
+pub mod Joining
+pub mod Moves
+pub mod Numbering
+pub mod Policy
+pub mod Reduced
+pub mod Since
+pub mod Streams
