@@ -1,0 +1,14 @@
+pub mod BagLemmas
+pub mod CommandLemmas
+pub mod DatabaseLemmas
+pub mod DoneLemmas
+pub mod FoundLemmas
+pub mod HadLemmas
+pub mod KeptLemmas
+pub mod MarkedLemmas
+pub mod RoundLemmas
+pub mod AskedLemmas
+pub mod Making
+pub mod StoredLemmas
+pub mod TableLemmas
+pub mod ViewLemmas

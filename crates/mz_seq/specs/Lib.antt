@@ -1,0 +1,6 @@
+pub mod Asked
+pub mod Done
+pub mod Stored
+pub mod Tables
+pub mod Told
+pub mod Twice
