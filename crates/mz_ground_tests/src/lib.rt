@@ -1,8 +1,10 @@
-//! The tests of values, bags, updates and tables: what no clause says of them.
+//! The tests of values, bags, updates, tables and arrangements: what no clause says of them.
 //! Promises nothing by code, and has none. The tests stand apart from the crates that they try, so that a gate proves those once.
-//! Stands on `mz_value`, `mz_bag`, `mz_updates` and `mz_tables`.
+//! Stands on `mz_value`, `mz_bag`, `mz_updates`, `mz_tables` and `mz_arrange`.
 #![tactic(auto)]
 
+#[cfg(test)]
+mod arrangements;
 #[cfg(test)]
 mod bags;
 #[cfg(test)]
