@@ -1,6 +1,6 @@
 //! The program that says what statements ask for: each line of the input is a statement.
 //! Promises nothing of its own; `resolve` of `mz_resolve` says what each line is answered.
-//! Stands on `mz_sql` for the statements, `mz_catalog` for the items, and `mz_resolve`.
+//! Stands on `mz_sql` for the statements, `mz_resolve` for what they ask for, and `mz_seq`, which carries it out.
 #![tactic(auto)]
 
 mod plan_text;

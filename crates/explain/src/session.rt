@@ -1,21 +1,23 @@
-//! A catalog that statements change, and what each of them is answered.
-ghost use Rattle.std.specs.Prelude.{◌≡◌, true};
-ghost use Rattle.mz_value.specs.Name.{is_name};
+//! The sequential object that statements change, and what each of them is answered.
+ghost use Rattle.std.specs.Prelude.{◌≡◌, false, IfOk};
+ghost use Rattle.mz_seq.specs.Asked.{IsAsked};
+ghost use Rattle.mz_seq.specs.Done.{is_query};
 
 use crate::plan_text::{push_condition, push_plan};
-use mz_catalog::{Catalog, CatalogFault};
-use mz_plan::{Item, ItemKind, Resolved};
-use mz_refusal::{CallFault, Limited, Refusal};
+use mz_log::SeqReply;
+use mz_plan::Resolved;
+use mz_refusal::{CallFault, Refusal};
 use mz_resolve::resolve;
+use mz_seq::Seq;
 use mz_sql::{ParseFault, parse};
-use mz_statement::{Column, ColumnType, Columns};
-use mz_value::{Name, Text};
+use mz_statement::{Column, ColumnType, Statement};
+use mz_value::Text;
 use std::alloc::{AllocError, Global};
 
-/// The items, and the cluster whose indexes are used.
+/// The items and the tables, and the cluster whose indexes are used.
 #[derive(Drop)]
 pub struct Session {
-    catalog: Catalog,
+    seq: Seq,
     cluster: u64,
 }
 
@@ -26,42 +28,6 @@ fn parse_fault(fault: ParseFault) -> CallFault {
         ParseFault::LiteralRange { at } => CallFault::Refused(Refusal::LiteralRange { at }),
         ParseFault::Memory => CallFault::Memory,
     }
-}
-
-// A fault of the catalog, as one of a call.
-fn catalog_fault(fault: CatalogFault) -> CallFault {
-    match fault {
-        CatalogFault::NameTaken { name } => CallFault::Refused(Refusal::NameTaken { name }),
-        CatalogFault::TooMany { limit } => CallFault::Refused(Refusal::TooMany {
-            what: Limited::Items,
-            limit,
-        }),
-        CatalogFault::HasDependents { name } => CallFault::Refused(Refusal::HasDependents { name }),
-        CatalogFault::Memory => CallFault::Memory,
-    }
-}
-
-// An INT column of this name.
-fn int_column(alloc: Global, name: &[u8]) -> Result<Column, AllocError>
-    requires { is_name name.now ≡ true }
-{
-    Ok(Column {
-        name: Name::new(alloc, name)?,
-        kind: ColumnType::Int,
-    })
-}
-
-// The table `kv`, which is there from the beginning, with the INT columns `k` and `v`.
-fn kv(alloc: Global) -> Result<Item, AllocError> {
-    let mut columns = Vec::new(alloc);
-    columns.push(int_column(alloc, b"k".as_slice())?)?;
-    columns.push(int_column(alloc, b"v".as_slice())?)?;
-    Ok(Item {
-        id: 0,
-        name: Name::new(alloc, b"kv".as_slice())?,
-        cluster: 0,
-        kind: ItemKind::Table(Columns::from_vec(columns)),
-    })
 }
 
 // The number behind `cluster `, where the line is such a one.
@@ -89,40 +55,6 @@ fn push_columns(alloc: Global, text: &mut String, columns: &[Column]) -> Result<
         between = ", ";
     }
     Ok(())
-}
-
-// Whether one of the columns has this name.
-fn has_column(columns: &[Column], name: &Name) -> bool {
-    columns.iter().any(|column| column.name == *name)
-}
-
-// The first column whose name an earlier one has.
-fn twin(columns: &[Column]) -> Option<&Column> {
-    'columns: for (place, column) in columns.iter().enumerate() {
-        if has_column(&columns[..place], &column.name) {
-            return Some(column);
-        }
-    }
-    None
-}
-
-// The columns that a command gives names.
-fn columns_named(resolved: &Resolved) -> &[Column] {
-    match resolved {
-        Resolved::CreateTable(_, columns) => columns.as_slice(),
-        Resolved::CreateView(_, columns, _) => columns.as_slice(),
-        _ => &[],
-    }
-}
-
-// A column whose name an earlier one has is refused.
-fn check_columns(alloc: Global, columns: &[Column]) -> Result<(), CallFault> {
-    match twin(columns) {
-        Some(column) => Err(CallFault::Refused(Refusal::NameTaken {
-            name: column.name.try_copy(alloc)?,
-        })),
-        None => Ok(()),
-    }
 }
 
 // What is printed of what is asked for. Of an item that is made it stands behind its number.
@@ -154,80 +86,90 @@ fn shown(alloc: Global, resolved: &Resolved) -> Result<String, AllocError> {
     Ok(text)
 }
 
-// The same, where the columns that are named have different names.
-fn said(alloc: Global, resolved: &Resolved) -> Result<String, CallFault> {
-    check_columns(alloc, columns_named(resolved))?;
-    Ok(shown(alloc, resolved)?)
+// Whether it is a query.
+fn is_query(asked: &Resolved) -> bool
+    ensures { result ≡ is_query asked.now }
+{
+    matches!(asked, Resolved::Query(_))
 }
 
-// The item that a command makes.
-fn item_made(resolved: Resolved) -> Option<Item> {
-    let (name, cluster, kind) = match resolved {
-        Resolved::CreateTable(name, columns) => (name, 0, ItemKind::Table(columns)),
-        Resolved::CreateView(name, columns, query) => (name, 0, ItemKind::View(columns, query)),
-        Resolved::CreateIndex(name, on, plan, cluster) => {
-            (name, cluster, ItemKind::Index(on, plan))
-        }
-        _ => return None,
-    };
-    Some(Item {
-        id: 0,
-        name,
-        cluster,
-        kind,
-    })
+// What the reply to a command says of it, where it isn't refused.
+fn said(alloc: Global, reply: SeqReply, shown: String) -> Result<String, CallFault> {
+    match reply {
+        SeqReply::Created(id) => Ok(format!(in alloc; "created {id}{shown}")?),
+        SeqReply::Refused(refusal) => Err(CallFault::Refused(refusal)),
+        _ => Ok(shown),
+    }
 }
 
 impl Session {
     /// The session with the table `kv` alone, in cluster 0.
     pub fn fresh(alloc: Global) -> Result<Session, AllocError> {
-        let mut catalog = Catalog::empty(alloc);
-        match catalog.add(kv(alloc)?) {
-            Ok(_) => Ok(Session {
-                catalog,
-                cluster: 0,
-            }),
-            Err(_) => Err(AllocError),
+        Ok(Session {
+            seq: Seq::fresh(alloc)?,
+            cluster: 0,
+        })
+    }
+
+    // What a statement asks for.
+    fn asked(&self, alloc: Global, statement: &Statement) -> Result<Resolved, CallFault>
+        ensures { IfOk result (λ asked. IsAsked self.now.seq.present.items asked) }
+    {
+        resolve(alloc, statement, self.seq.catalog(), self.cluster)
+    }
+
+    // Carries out a command, and says what it did.
+    fn carry_out(
+        &mut self,
+        alloc: Global,
+        asked: Resolved,
+        shown: String,
+    ) -> Result<String, CallFault>
+        requires asked { IsAsked self.old.seq.present.items asked }
+        requires no_query { is_query asked ≡ false }
+    {
+        let reply = self.seq.apply(asked)?;
+        said(alloc, reply, shown)
+    }
+
+    // Carries out a command, and says what it did. A query changes nothing.
+    fn do_and_say(
+        &mut self,
+        alloc: Global,
+        asked: Resolved,
+        shown: String,
+    ) -> Result<String, CallFault>
+        requires { IsAsked self.old.seq.present.items asked }
+    {
+        if is_query(&asked) {
+            Ok(shown)
+        } else {
+            self.carry_out(alloc, asked, shown)
         }
     }
 
-    // Removes an item.
-    fn remove(&mut self, id: u64) -> Result<(), CallFault> {
-        if !self.catalog.contains(id) {
-            return Err(CallFault::Memory);
-        }
-        self.catalog.remove(id).map_err(catalog_fault)
-    }
-
-    // Removes what a command removes, and says what is asked for.
-    fn remove_and_say(&mut self, alloc: Global, resolved: &Resolved) -> Result<String, CallFault> {
-        let said = said(alloc, resolved)?;
-        if let Resolved::Drop(id) = resolved {
-            self.remove(*id)?;
-        }
-        Ok(said)
-    }
-
-    // Adds an item, and says its number and what is said of it.
-    fn add_and_say(&mut self, alloc: Global, item: Item, said: &str) -> Result<String, CallFault> {
-        let id = self.catalog.add(item).map_err(catalog_fault)?;
-        Ok(format!(in alloc; "created {id}{said}")?)
-    }
-
-    // Does what is asked for, as far as it changes the items, and says it.
-    fn carry_out(&mut self, alloc: Global, resolved: Resolved) -> Result<String, CallFault> {
-        let said = self.remove_and_say(alloc, &resolved)?;
-        match item_made(resolved) {
-            Some(item) => self.add_and_say(alloc, item, said.as_str()),
-            None => Ok(said),
-        }
+    // What is asked for is done as far as it changes anything, and is said.
+    fn answer_asked(&mut self, alloc: Global, asked: Resolved) -> Result<String, CallFault>
+        requires { IsAsked self.old.seq.present.items asked }
+    {
+        let shown = shown(alloc, &asked)?;
+        self.do_and_say(alloc, asked, shown)
     }
 
     // What a statement is answered.
+    fn answer_statement(
+        &mut self,
+        alloc: Global,
+        statement: &Statement,
+    ) -> Result<String, CallFault> {
+        let asked = self.asked(alloc, statement)?;
+        self.answer_asked(alloc, asked)
+    }
+
+    // What the statement of a text is answered.
     fn explain(&mut self, alloc: Global, text: &Text) -> Result<String, CallFault> {
         let statement = parse(alloc, text).map_err(parse_fault)?;
-        let resolved = resolve(alloc, &statement, &self.catalog, self.cluster)?;
-        self.carry_out(alloc, resolved)
+        self.answer_statement(alloc, &statement)
     }
 
     /// What a line is answered: a statement by what it asks for, or by its refusal. A line that begins with
