@@ -65,6 +65,19 @@ fn says(
     Ok(())
 }
 
+// Of each table that is there its number, and how many different rows came or went since the mark.
+fn changed(alloc: Global, seq: &Seq) -> Result<String, AllocError> {
+    let mut text = String::new(alloc);
+    for table in seq.changes() {
+        if table.is {
+            let number = table.number;
+            let rows = table.rows.changes().len();
+            write!(text, "{number}: {rows}; ")?;
+        }
+    }
+    Ok(text)
+}
+
 // A round in which a table comes and `kv` goes is abandoned.
 fn abandon(rt: &impl Abort, alloc: Global, seq: &mut Seq) -> Result<(), AllocError> {
     let before = [("INSERT INTO kv VALUES (1, 2), (1, 2)", "inserted 2")];
@@ -77,7 +90,9 @@ fn abandon(rt: &impl Abort, alloc: Global, seq: &mut Seq) -> Result<(), AllocErr
         ("DROP TABLE kv", "dropped"),
     ];
     says(rt, alloc, seq, &round)?;
+    assert_eq!(rt; changed(alloc, seq)?.as_str(), "2: 1; ");
     seq.abandon_round();
+    assert_eq!(rt; changed(alloc, seq)?.as_str(), "1: 0; ");
     let after = [
         ("DELETE FROM kv", "deleted 2"),
         ("CREATE TABLE t (a INT, b INT)", "created 2"),
