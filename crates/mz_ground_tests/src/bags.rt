@@ -14,6 +14,7 @@ fn text(alloc: Global, text: &str) -> Result<Datum, AllocError> {
     Ok(Datum::Text(Text::from_string(String::from_str(alloc, text)?)))
 }
 
+/// A row of an INT and a TEXT.
 pub fn row(alloc: Global, number: i32, string: &str) -> Result<Row, AllocError> {
     Ok(Row::from_vec(vec![in alloc; Datum::Int(number), text(alloc, string)?]?))
 }
@@ -29,6 +30,7 @@ fn add(rt: &impl Abort, bag: &mut Bag, row: Row, diff: i8) -> Result<(), AllocEr
     bag.add(row, i128::from(diff))
 }
 
+/// The bag of rows that come and go so often, each a few times.
 pub fn bag(rt: &impl Abort, alloc: Global, changes: &[(i32, &str, i8)]) -> Result<Bag, AllocError>
     ensures { IfOk result (λ bag. (q : List Datum) → FitsSigned w32 (count_in bag q)) }
 {

@@ -10,6 +10,7 @@ use std::alloc::{AllocError, Global};
 use std::process::Abort;
 use std::test::Fail;
 
+/// The time of this number.
 pub fn time(rt: &impl Abort, number: u64) -> Time
     ensures { result ≡ number }
 {
