@@ -11,4 +11,5 @@ pub mod AskedLemmas
 pub mod Making
 pub mod StoredLemmas
 pub mod TableLemmas
+pub mod UsedLemmas
 pub mod ViewLemmas

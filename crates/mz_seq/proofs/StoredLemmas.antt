@@ -17,7 +17,7 @@ use Rattle.mz_bag.specs.Weighted.{Weighted, count, sum_of}
 use Rattle.mz_bag.proofs.BagLaws.{count_in-sum_of, find-absent}
 use Rattle.mz_bag.proofs.StoredCounts.{count-first, find-lookup}
 use Rattle.mz_plan_laws.proofs.Bounds.{absent}
-use Rattle.mz_seq.specs.Stored.{count_at, has_row, is_left, Covers}
+use Rattle.mz_seq.specs.Stored.{count_at, has_row, Covers}
 
 -- a default passes into a choice
 unwrap_choice : (c : Bool) (o p : Option ℤ) → unwrap_or (cond c o p) (pos 0) ≡ cond c (unwrap_or o (pos 0)) (unwrap_or p (pos 0))
@@ -25,7 +25,7 @@ unwrap_choice true o p = refl
 unwrap_choice false o p = refl
 
 -- what isn't there counts 0
-none_counts : (o : Option ℤ) → is_some o ≡ false → unwrap_or o (pos 0) ≡ pos 0
+pub none_counts : (o : Option ℤ) → is_some o ≡ false → unwrap_or o (pos 0) ≡ pos 0
 none_counts None h = refl
 none_counts (Some z) h = cc
 
@@ -172,28 +172,26 @@ covers_sum es a b sum first second is = record {
 pub covers_kept : (es fs : Weighted) (bag : Counts) → ((q : List Datum) → has_row fs q ≡ false → has_row es q ≡ false) → Covers es bag → Covers fs bag
 covers_kept es fs bag kept is = record { covers = λ q none. is.covers q (kept q none) }
 
--- ---- sweeping
+-- ---- a place less
 
--- a row that isn't found counts 0
-absent_counts : (es : Weighted) (row : List Datum) → Each (λ k. row_eq row k ≡ false) (keys_of es) → count_at es row ≡ pos 0
-absent_counts es row none = ap (λ o. unwrap_or o (pos 0)) (sym (find-lookup es row) ∙ find-absent row es none)
-
--- where no row stands twice, those that are stored with the count 0 can go
-pub swept_counts : (es : Weighted) → IsDistinct row_eq (keys_of es) → (q : List Datum) → count_at (filter is_left es) q ≡ count_at es q
-swept_counts [] once q = refl
-swept_counts (e ∷ es) once q = by (int_eq e.1 (pos 0)) refl (swept_counts es (IsDistinct-tail row_eq e.0 (keys_of es) once) q)
+-- a row that is taken out with the count 0 counts as before, as does each other
+pub zero_taken : (es fs : Weighted) (row : List Datum)
+    → ((q : List Datum) → lookup (row_eq q) fs ≡ cond (row_eq row q) None (lookup (row_eq q) es))
+    → count_at es row ≡ pos 0 → (q : List Datum) → count_at fs q ≡ count_at es q
+zero_taken es fs row given zero q = ap (λ o. unwrap_or o (pos 0)) (given q) ∙ by (row_eq row q) refl
   where
-    first : (c : Bool) → row_eq q e.0 ≡ c → e.1 ≡ pos 0 → count_at es q ≡ unwrap_or (cond c (Some e.1) (lookup (row_eq q) es)) (pos 0)
-    first true is zero =
-        ap (count_at es) ((row_eq-Decides q e.0).0 is) ∙ absent_counts es e.0 (IsDistinct-head row_eq e.0 (keys_of es) once) ∙ sym zero
-    first false is zero = refl
+    by : (c : Bool) → row_eq row q ≡ c → unwrap_or (cond c None (lookup (row_eq q) es)) (pos 0) ≡ count_at es q
+    by true is = sym (ap (λ o. unwrap_or o (pos 0)) (same_row es row q is) ∙ zero)
+    by false is = refl
 
-    kept : (c : Bool) → count_at (filter is_left es) q ≡ count_at es q
-        → unwrap_or (cond c (Some e.1) (lookup (row_eq q) (filter is_left es))) (pos 0) ≡ unwrap_or (cond c (Some e.1) (lookup (row_eq q) es)) (pos 0)
-    kept true rest = refl
-    kept false rest = rest
-
-    by : (z : Bool) → int_eq e.1 (pos 0) ≡ z → count_at (filter is_left es) q ≡ count_at es q
-        → count_at (cond (not z) (e ∷ filter is_left es) (filter is_left es)) q ≡ count_at (e ∷ es) q
-    by true is rest = rest ∙ first (row_eq q e.0) refl ((signed_Decides e.1 (pos 0)).0 is)
-    by false is rest = kept (row_eq q e.0) rest
+-- and what is covered stays so where the row that goes isn't counted
+pub covers_taken : (es fs : Weighted) (row : List Datum) (bag : Counts)
+    → ((q : List Datum) → lookup (row_eq q) fs ≡ cond (row_eq row q) None (lookup (row_eq q) es))
+    → count_in bag row ≡ pos 0 → Covers es bag → Covers fs bag
+covers_taken es fs row bag given zero before = record {
+  covers = λ q none. by q (row_eq row q) refl (sym (ap is_some (given q)) ∙ none);
+}
+  where
+    by : (q : List Datum) (c : Bool) → row_eq row q ≡ c → is_some (cond c None (lookup (row_eq q) es)) ≡ false → count_in bag q ≡ pos 0
+    by q true is none = ap (count_in bag) (sym ((row_eq-Decides row q).0 is)) ∙ zero
+    by q false is none = before.covers q none

@@ -18,7 +18,7 @@ use Rattle.mz_plan_laws.proofs.PlanMasses.{least_plain, mass_negated}
 use Rattle.mz_plan_laws.proofs.Weighing.{count_filtered}
 use Rattle.mz_log.specs.Sequential.{added, difference}
 use Rattle.mz_log.specs.CarriedOut.{rows_in}
-use Rattle.mz_seq.specs.Stored.{count_at, rows_now, rows_then, Covers, IsTable, IsKept}
+use Rattle.mz_seq.specs.Stored.{count_at, rows_now, rows_then, AreUsed, Covers, IsTable, IsKept}
 use Rattle.mz_seq.proofs.Making.{difference_fits}
 use Rattle.mz_seq.proofs.TableLemmas.{added_counts, alike_mass, entries_not, kept_not, table_fits, table_more, table_size, weights_not}
 
@@ -107,9 +107,10 @@ moved_sums es ws before change rows marked whole then is q =
 -- what is kept stays so where a change comes to it
 pub moved_keeps : (es fs ws : Weighted) (before change after : Counts) (rows marked more : ℕ) → IsKept es rows marked before
     → IsTable more (added (rows_now es) ws) → ((q : List Datum) → count_at fs q ≡ count_at es q +ℤ count_in change q) → change ≡ bag_of ws
-    → after ≡ sum_of before change → Covers fs after → IsKept fs more marked after
-moved_keeps es fs ws before change after rows marked more is whole moved comes sum covers = record {
+    → after ≡ sum_of before change → Covers fs after → AreUsed fs after → IsKept fs more marked after
+moved_keeps es fs ws before change after rows marked more is whole moved comes sum covers used = record {
   covers = covers;
+  used = used;
   no_zero = subst IsBag (sym sum) (IsBag-sum_of before change);
   now = subst (IsTable more) (sym (now_moved es fs ws change moved comes)) whole;
   then = subst (IsTable marked) (sym (then_moved es fs before change after moved sum)) is.then;
@@ -117,9 +118,10 @@ moved_keeps es fs ws before change after rows marked more is whole moved comes s
 
 -- and where nothing comes
 pub same_keeps : (es fs : Weighted) (before after : Counts) (rows marked : ℕ) → IsKept es rows marked before
-    → ((q : List Datum) → count_at fs q ≡ count_at es q) → after ≡ before → Covers fs after → IsKept fs rows marked after
-same_keeps es fs before after rows marked is same kept covers = record {
+    → ((q : List Datum) → count_at fs q ≡ count_at es q) → after ≡ before → Covers fs after → AreUsed fs after → IsKept fs rows marked after
+same_keeps es fs before after rows marked is same kept covers used = record {
   covers = covers;
+  used = used;
   no_zero = subst IsBag (sym kept) is.no_zero;
   now = subst (IsTable rows) (sym (now_same es fs same)) is.now;
   then = subst (IsTable marked) (sym (then_same es fs before after same kept)) is.then;
@@ -171,9 +173,10 @@ then_now es changes is =
     omega (arith, ints, then_counts es changes q, now_counts es q, none))
 
 -- what is kept at a mark
-pub marked_kept : (es : Weighted) (changes : Counts) (rows : ℕ) → changes ≡ empty → IsTable rows (rows_now es) → IsKept es rows rows changes
-marked_kept es changes rows is whole = record {
+pub marked_kept : (es : Weighted) (changes : Counts) (rows : ℕ) → changes ≡ empty → AreUsed es changes → IsTable rows (rows_now es) → IsKept es rows rows changes
+marked_kept es changes rows is used whole = record {
   covers = covers_none es changes is;
+  used = used;
   no_zero = subst IsBag (sym is) IsBag-empty;
   now = whole;
   then = subst (IsTable rows) (sym (then_now es changes is)) whole;
@@ -227,5 +230,5 @@ on_err (Err e) p = p
 
 -- what is kept stays so where its rows are stored otherwise
 pub swept_kept : (es fs : Weighted) (changes : Counts) (rows : ℕ) → changes ≡ empty → ((q : List Datum) → count_at fs q ≡ count_at es q)
-    → IsTable rows (rows_now es) → IsKept fs rows rows changes
-swept_kept es fs changes rows none same whole = marked_kept fs changes rows none (subst (IsTable rows) (sym (now_same es fs same)) whole)
+    → AreUsed fs changes → IsTable rows (rows_now es) → IsKept fs rows rows changes
+swept_kept es fs changes rows none same used whole = marked_kept fs changes rows none used (subst (IsTable rows) (sym (now_same es fs same)) whole)

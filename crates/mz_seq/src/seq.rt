@@ -327,8 +327,8 @@ impl Seq {
 
     /// Carries out a command that a statement asks for in this catalog, which is no query. Whatever the plans of indexes
     /// are, it is told and leaves what the sequential object does. After an `Err` all is as before. An INSERT costs
-    /// O(rows named) expected, a DELETE one scan of its table, a CREATE O(1) expected and a DROP O(items), beside one copy
-    /// of the catalog in the first of these since the mark.
+    /// O(rows named) expected, a DELETE one scan of its table, each with O(log tables) to find it; a CREATE costs O(1)
+    /// expected and a DROP O(items), beside one copy of the catalog in the first of these since the mark.
     pub fn apply(&mut self, asked: Resolved) -> Result<SeqReply, AllocError>
         requires asked { IsAsked self.old.present.items asked }
         requires no_query { is_query asked ≡ false }
@@ -350,8 +350,9 @@ impl Seq {
             Resolved::Query(_) => unreachable!(),
         }
     }
-    /// Starts a round: what there is now can be gone back to. Takes no memory. O(1) for each table, and one pass over the
-    /// rows that are stored of one in which a DELETE or a way back came since the last mark.
+
+    /// Starts a round: what there is now can be gone back to. Takes no memory. O(1) for each table, and O(1) expected for
+    /// each row that changed since the last mark.
     pub fn start_round(&mut self)
         ensures present { self.new.present ≡ self.old.present }
         ensures marked { self.new.marked ≡ self.old.present }

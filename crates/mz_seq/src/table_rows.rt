@@ -18,11 +18,12 @@ use mz_plan::Cond;
 use mz_value::Row;
 use std::alloc::{AllocError, Global};
 use std::marker::Model;
+use std::mem;
 
 /// The rows of a table as they are, and as they were at a mark.
 #[derive(Drop)]
 pub struct TableRows {
-    // Each row with its count. A row that is gone keeps its place with the count 0.
+    // Each row with its count. A row of the mark that is gone keeps its place with the count 0.
     counts: IndexMap<Row, i128>,
     // How many rows there are, each as often as it is there.
     rows: u64,
@@ -30,8 +31,6 @@ pub struct TableRows {
     before: u64,
     // What came since the mark.
     changes: Bag,
-    // Whether the count of a row may be 0.
-    unswept: bool,
 }
 
 impl Model for TableRows {
@@ -65,7 +64,6 @@ impl TableRows {
             rows: 0,
             before: 0,
             changes: Bag::empty(alloc),
-            unswept: false,
         }
     }
 
@@ -93,11 +91,7 @@ impl TableRows {
         ensures marked { self.new.marked ≡ self.old.marked }
     {
         let change = bag_of_rows(*self.counts.allocator(), rows)?;
-        // Where memory runs out, some of the rows may have a place with the count 0.
-        let unswept = self.unswept;
-        self.unswept = true;
         put(&mut self.counts, &mut self.changes, &change)?;
-        self.unswept = unswept;
         self.rows = self.rows + rows.len() as u64;
         Ok(())
     }
@@ -114,7 +108,6 @@ impl TableRows {
         ensures marked { self.new.marked ≡ self.old.marked }
     {
         let met = rows_met(*self.counts.allocator(), &self.counts, cond)?;
-        self.unswept = true;
         put(&mut self.counts, &mut self.changes, &met.gone)?;
         self.rows = self.rows - met.number;
         Ok(met.number)
@@ -125,22 +118,22 @@ impl TableRows {
         ensures present { self.new.present ≡ self.old.marked }
         ensures marked { self.new.marked ≡ self.old.marked }
     {
-        self.changes.negate();
-        add_each(&mut self.counts, self.changes.counts());
-        self.changes = Bag::empty(*self.counts.allocator());
+        let mut gone = mem::replace(&mut self.changes, Bag::empty(*self.counts.allocator()));
+        gone.negate();
+        let rows = gone.counts();
+        add_each(&mut self.counts, rows);
+        sweep(&mut self.counts, rows, &self.changes);
         self.rows = self.before;
-        self.unswept = true;
     }
 
-    /// Sets the mark: the rows of now can be gone back to. Takes no memory. O(1), and one pass over the rows that are
-    /// stored where a DELETE or a way back came since the last mark.
+    /// Sets the mark: the rows of now can be gone back to. Takes no memory. O(m) expected, where m rows changed since the
+    /// last.
     pub fn mark(&mut self)
         ensures present { self.new.present ≡ self.old.present }
         ensures marked { self.new.marked ≡ self.old.present }
     {
-        sweep(&mut self.counts, self.unswept);
-        self.unswept = false;
-        self.changes = Bag::empty(*self.counts.allocator());
+        let changes = mem::replace(&mut self.changes, Bag::empty(*self.counts.allocator()));
+        sweep(&mut self.counts, changes.counts(), &self.changes);
         self.before = self.rows;
     }
 }

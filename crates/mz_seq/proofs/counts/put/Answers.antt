@@ -1,15 +1,9 @@
-use Rattle.std.proofs.Common.{sym, subst, ◌∙◌}
-use Rattle.mz_bag.specs.Bag.{Counts}
-use Rattle.mz_seq.specs.Stored.{Covers}
-use Rattle.mz_seq.proofs.StoredLemmas.{covers_sum, covers_kept}
+use Rattle.mz_seq.proofs.UsedLemmas.{put_used}
 use Rattle.mz_seq.proofs.counts.put.Goals as goal
 
--- the rows of the change have places
-pub returns-clause-covers : goal.returns-clause-covers
-returns-clause-covers c =
-    covers_kept c.make_places.new.counts.entries c.add_each.new.counts.entries c.merge.new.self
-    (λ q none. sym (c.add_each.ensures.places q) ∙ none)
-    (covers_sum c.make_places.new.counts.entries c.args.changes.now c.args.change.now c.merge.new.self
-    (covers_kept c.args.counts.now.entries c.make_places.new.counts.entries c.args.changes.now c.make_places.ensures.kept c.requires.covers)
-    (subst (λ (b : Counts). Covers c.make_places.new.counts.entries b) c.counts.ensures.counts c.in_ok-make_places.ensures.there)
-    c.in_ok-merge.ensures.ok)
+-- what isn't used of the rows of the change is swept
+pub returns-clause-used : goal.returns-clause-used
+returns-clause-used c =
+    put_used c.put_all-result.result c.args.counts.now.entries c.put_all-result.new.counts.entries c.sweep.new.counts.entries c.counts.result.now.entries
+    c.args.changes.now c.args.change.now c.put_all-result.new.changes c.counts.ensures.counts c.put_all-result.ensures.counts c.put_all-result.ensures.changes
+    c.put_all-result.ensures.same c.put_all-result.ensures.same_changes c.put_all-result.ensures.only c.sweep.ensures.stays c.sweep.ensures.counts c.sweep.ensures.gone

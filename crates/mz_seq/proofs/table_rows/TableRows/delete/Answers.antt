@@ -32,7 +32,7 @@ pub invariant_of-self : goal.invariant_of-self
 invariant_of-self c =
     let s = c.self.inside in
     same_keeps s.counts.entries c.put.new.counts.entries s.changes c.put.new.changes s.rows s.before c.self.invariant c.in_err-put.ensures.same c.in_err-put.ensures.same_changes
-    c.put.ensures.covers
+    c.put.ensures.covers (c.put.ensures.used c.self.invariant.used)
 
 pub returns-in_err-put-clause-err : goal.returns-in_err-put-clause-err
 returns-in_err-put-clause-err c =
@@ -55,7 +55,7 @@ invariant_of-self-2 c =
     (moved_keeps s.counts.entries c.put.new.counts.entries (negated (filtered p (entries (rows_now s.counts.entries)))) s.changes c.in_ok-met.met.gone c.put.new.changes
     s.rows s.before (s.rows - mass (filtered p (entries (rows_now s.counts.entries)))) c.self.invariant
     (table_less s.rows (rows_now s.counts.entries) p c.self.invariant.now) c.in_ok-put.ensures.counts
-    (c.in_ok-met.ensures.gone ∙ met_bag p s.counts.entries c.rows_met.ensures.once) c.in_ok-put.ensures.changes c.put.ensures.covers)
+    (c.in_ok-met.ensures.gone ∙ met_bag p s.counts.entries c.rows_met.ensures.once) c.in_ok-put.ensures.changes c.put.ensures.covers (c.put.ensures.used c.self.invariant.used))
 
 pub returns-clause-ok : goal.returns-clause-ok
 returns-clause-ok c =

@@ -24,7 +24,7 @@ pub invariant_of-self : goal.invariant_of-self
 invariant_of-self c =
     let s = c.self.inside in
     same_keeps s.counts.entries c.put.new.counts.entries s.changes c.put.new.changes s.rows s.before c.self.invariant c.in_err-put.ensures.same c.in_err-put.ensures.same_changes
-    c.put.ensures.covers
+    c.put.ensures.covers (c.put.ensures.used c.self.invariant.used)
 
 pub returns-in_err-put-clause-err : goal.returns-in_err-put-clause-err
 returns-in_err-put-clause-err c =
@@ -42,7 +42,7 @@ invariant_of-self-2 c =
     let s = c.self.inside in
     let whole = insert_table s.counts.entries s.changes s.rows s.before c.args.rows.now c.args.self.now.present c.self.invariant (ap (λ t. t.present) c.self.view_is) c.requires in
     moved_keeps s.counts.entries c.put.new.counts.entries (each_once c.args.rows.now) s.changes c.in_ok-change.change c.put.new.changes s.rows s.before
-    (s.rows + length c.args.rows.now) c.self.invariant whole c.in_ok-put.ensures.counts c.in_ok-change.ensures c.in_ok-put.ensures.changes c.put.ensures.covers
+    (s.rows + length c.args.rows.now) c.self.invariant whole c.in_ok-put.ensures.counts c.in_ok-change.ensures c.in_ok-put.ensures.changes c.put.ensures.covers (c.put.ensures.used c.self.invariant.used)
 
 pub returns-clause-ok : goal.returns-clause-ok
 returns-clause-ok c =
