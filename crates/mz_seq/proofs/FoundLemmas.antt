@@ -22,7 +22,8 @@ pub record Found (p : Table → Bool) (ts : List Table) (place : ℕ) (t : Table
   pub passes : p t ≡ true
   pub first : list_any p before ≡ false
 
-one_more : (n : ℕ) → suc n ≡ 1 + n
+-- the next number is one more
+pub one_more : (n : ℕ) → suc n ≡ 1 + n
 one_more n = grind arith
 
 found_at : (p : Table → Bool) (ts : List Table) (t : Table) → position_or_len p ts < length ts → t ≡ slice_index_or ts (position_or_len p ts) t
@@ -128,7 +129,7 @@ both true c h = (refl, h)
 both false c h = cc
 
 -- a table that is there has a bag
-now_one : (y : Table) (ts : List Table) → y.is ≡ true → bags_now (y ∷ ts) ≡ (y.number, y.rows.present) ∷ bags_now ts
+pub now_one : (y : Table) (ts : List Table) → y.is ≡ true → bags_now (y ∷ ts) ≡ (y.number, y.rows.present) ∷ bags_now ts
 now_one y ts is = ap (λ b. map (λ table. (table.number, table.rows.present)) (cond b (y ∷ filter (λ table. table.is) ts) (filter (λ table. table.is) ts))) is
 
 now_among : (y : Table) (xs zs : List Table) → y.is ≡ true → bags_now (xs ++ y ∷ zs) ≡ bags_now xs ++ (y.number, y.rows.present) ∷ bags_now zs

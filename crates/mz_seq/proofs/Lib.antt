@@ -9,6 +9,7 @@ pub mod MarkedLemmas
 pub mod RoundLemmas
 pub mod AskedLemmas
 pub mod Making
+pub mod PlaceLemmas
 pub mod StoredLemmas
 pub mod TableLemmas
 pub mod UsedLemmas

@@ -1,5 +1,5 @@
 //! The tables that there are, and those that there were at a mark.
-ghost use Rattle.std.specs.Prelude.{◌≡◌, ◌∷◌, ◌++◌, ◌<◌, ◌==◌, ◌&&◌, [], None, true, filter, map, length, position, vec_len, vec_capacity, IfOk, OnErr};
+ghost use Rattle.std.specs.Prelude.{◌≡◌, ◌∷◌, ◌++◌, ◌<◌, ◌==◌, ◌&&◌, [], None, true, filter, map, length, position, vec_len, vec_capacity, IfOk, IfSome, OnErr};
 ghost use Rattle.std.specs.FinMap.{empty, entries};
 ghost use Rattle.mz_bag.specs.Mass.{mass};
 ghost use Rattle.mz_bag.specs.Weighted.{each_once, negated};
@@ -29,13 +29,41 @@ pub struct Table {
     pub is: bool,
 }
 
-// The place of the table of this number. O(n), where there are n tables.
-fn place_of(tables: &[Table], number: u64) -> Option<usize>
+// Whether this is the table of this number, and there is such a table.
+fn is_at(table: &Table, number: u64) -> bool
+    ensures { result ≡ (table.now.is && table.now.number == number) }
+{
+    table.is && table.number == number
+}
+
+// The place of the table of this number, where there is one. O(n), where there are n tables.
+fn first_at(tables: &[Table], number: u64) -> Option<usize>
     ensures { result ≡ position (λ table. table.is && table.number == number) tables.now }
 {
     tables
         .iter()
         .position(|table| table.is && table.number == number)
+}
+
+// A place where a table of this number is or was, found in halves. O(log n), where there are n tables.
+fn searched(tables: &[Table], number: u64) -> Option<usize>
+    ensures { IfSome result (λ place. place < length tables.now) }
+{
+    tables
+        .binary_search_by_key(&number, |table| table.number)
+        .ok()
+}
+
+// The place of the table of this number, where there is one. A later table has a greater number, so one that is there is
+// found in halves, and the walk only tells that none is. O(log n), where there are n tables, and O(n) where none is.
+fn place_of(tables: &[Table], number: u64) -> Option<usize>
+    requires { AreApart (bags_now tables.now) }
+    ensures { result ≡ position (λ table. table.is && table.number == number) tables.now }
+{
+    match searched(tables, number) {
+        Some(place) if is_at(&tables[place], number) => Some(place),
+        _ => first_at(tables, number),
+    }
 }
 
 /// Puts a new table last. Takes no memory, since there is room.
@@ -53,8 +81,8 @@ pub fn push(alloc: Global, tables: &mut Vec<Table>, number: u64)
     });
 }
 
-/// Takes the table of this number away, where there is one: at the mark it stays. Takes no memory. O(n), where there are n
-/// tables.
+/// Takes the table of this number away, where there is one: at the mark it stays. Takes no memory. O(log n), where there are
+/// n tables, and O(n) where none has the number.
 pub fn take_away(tables: &mut Vec<Table>, number: u64)
     requires { AreApart (bags_now tables.old.items) }
     ensures now { bags_now tables.new.items ≡ without_bag number (bags_now tables.old.items) }
