@@ -12,7 +12,7 @@ use Rattle.mz_log.specs.CarriedOut.{overfull, rows_in}
 use Rattle.mz_log.specs.declared.reply.SeqReply.{SeqReply}
 use Rattle.mz_log.specs.declared.reply.SeqReply.TheVariants.{Inserted, Deleted}
 use Rattle.mz_seq.specs.Told.{ComesTo}
-use Rattle.mz_seq.specs.Twice.{Twice}
+use Rattle.mz_marked.specs.Twice.{Twice}
 use Rattle.mz_seq.specs.Tables.{bags_now}
 use Rattle.mz_seq.specs.declared.tables.Table.{Table}
 use Rattle.mz_seq.proofs.FoundLemmas.{Around, bag_there, now_moved, now_as_before}

@@ -6,7 +6,7 @@ use Rattle.std.specs.List.{list_any, position_or_len}
 use Rattle.mz_bag.specs.Weighted.{Weighted}
 use Rattle.mz_bag.specs.Bag.{Counts}
 use Rattle.mz_log.specs.Sequential.{added, bag_at, with_rows, without_bag}
-use Rattle.mz_seq.specs.Twice.{Twice}
+use Rattle.mz_marked.specs.Twice.{Twice}
 use Rattle.mz_seq.specs.Tables.{bags_now, bags_then, has_bag, AreApart}
 use Rattle.mz_seq.specs.declared.tables.Table.{Table}
 use Rattle.mz_seq.proofs.BagLemmas.{at_among, rows_among, without_among, apart_behind, stays_all}

@@ -1,21 +1,19 @@
 -- How stored counts follow what is done to them.
-use Rattle.std.proofs.Common.{◌≡◌, Bool, true, false, cond, ℕ, ◌+◌, ◌<◌, suc, not, length, nat_lt, filter, ℤ, pos, ◌+ℤ◌, List, [], ◌∷◌, Option, None, Some, unwrap_or, is_some, if◌then◌else◌, refl, sym, ap, subst, ◌∙◌, true≢false, arith}
+use Rattle.std.proofs.Common.{◌≡◌, Bool, true, false, cond, ℕ, ◌+◌, ◌<◌, suc, not, length, nat_lt, ℤ, pos, ◌+ℤ◌, List, [], ◌∷◌, Option, None, Some, unwrap_or, is_some, if◌then◌else◌, refl, sym, ap, subst, ◌∙◌, true≢false, arith}
 use Rattle.std.proofs.lemmas.Int.{ints}
 use Rattle.std.proofs.lemmas.Bool.{ltb-true}
-use Rattle.std.specs.List.{AllByRecursion as Each, IsDistinct, position, position_or_len}
+use Rattle.std.specs.List.{IsDistinct, position, position_or_len}
 use Rattle.std.specs.Map.{keys_of, lookup}
-use Rattle.std.specs.Ordering.{int_eq}
-use Rattle.std.specs.Cmp.{signed_Decides}
 use Rattle.std.proofs.lemmas.Map.Entries.{length-keys_of}
-use Rattle.std.proofs.lemmas.Map.Keys.{IsDistinct-head, IsDistinct-tail}
+use Rattle.std.proofs.lemmas.Map.Keys.{IsDistinct-head}
 use Rattle.indexmap.specs.IndexMap.{set_value_at}
 use Rattle.mz_value.specs.Row.{row_eq}
 use Rattle.mz_value.specs.RowOrder.{row_equiv, row_eq-Decides}
 use Rattle.mz_value.specs.declared.datum.Datum.{Datum}
 use Rattle.mz_bag.specs.Bag.{Counts, count_in}
 use Rattle.mz_bag.specs.Weighted.{Weighted, count, sum_of}
-use Rattle.mz_bag.proofs.BagLaws.{count_in-sum_of, find-absent}
-use Rattle.mz_bag.proofs.StoredCounts.{count-first, find-lookup}
+use Rattle.mz_bag.proofs.BagLaws.{count_in-sum_of}
+use Rattle.mz_bag.proofs.StoredCounts.{count-first}
 use Rattle.mz_plan_laws.proofs.Bounds.{absent}
 use Rattle.mz_seq.specs.Stored.{count_at, has_row, Covers}
 

@@ -3,4 +3,3 @@ pub mod Done
 pub mod Stored
 pub mod Tables
 pub mod Told
-pub mod Twice

@@ -37,7 +37,7 @@ impl Model for MarkedCatalog {
     ghost use Rattle.std.specs.Prelude.{unwrap_or};
     ghost use Rattle.mz_plan.specs.contracts.item.Item as the_item;
     ghost use Rattle.mz_catalog.specs.CatalogState.{CatalogState, state_code};
-    ghost use Rattle.mz_seq.specs.Twice.{Twice, twice_code};
+    ghost use Rattle.mz_marked.specs.Twice.{Twice, twice_code};
 
     ghost Value = { Twice CatalogState };
 

@@ -43,7 +43,7 @@ impl Model for Seq {
     ghost use Rattle.mz_plan.specs.contracts.item.Item as the_item;
     ghost use Rattle.mz_log.specs.Sequential.{Database};
     ghost use Rattle.mz_seq.specs.Tables.{bags_had, bags_now, bags_then, database_code, database_of, IsRound};
-    ghost use Rattle.mz_seq.specs.Twice.{Twice, twice_code};
+    ghost use Rattle.mz_marked.specs.Twice.{Twice, twice_code};
 
     ghost Value = { Twice Database };
 

@@ -39,7 +39,7 @@ impl Model for TableRows {
     ghost use Rattle.mz_value.specs.contracts.datum.Datum as datum;
     ghost use Rattle.mz_bag.specs.Bag.{Counts};
     ghost use Rattle.mz_seq.specs.Stored.{rows_now, rows_then, IsKept};
-    ghost use Rattle.mz_seq.specs.Twice.{Twice, twice_code};
+    ghost use Rattle.mz_marked.specs.Twice.{Twice, twice_code};
 
     ghost Value = { Twice Counts };
 

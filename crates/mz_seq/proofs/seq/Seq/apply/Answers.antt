@@ -14,7 +14,7 @@ use Rattle.mz_log.specs.declared.reply.SeqReply.TheVariants.{Created, Dropped, I
 use Rattle.mz_seq.specs.Asked.{NamesThere}
 use Rattle.mz_seq.specs.Done.{IsDone}
 use Rattle.mz_seq.specs.Told.{ComesTo}
-use Rattle.mz_seq.specs.Twice.{Twice}
+use Rattle.mz_marked.specs.Twice.{Twice}
 use Rattle.mz_seq.proofs.AskedLemmas.{asked_there}
 use Rattle.mz_seq.proofs.DoneLemmas.{if_done}
 use Rattle.mz_seq.proofs.seq.Seq.apply.Goals as goal

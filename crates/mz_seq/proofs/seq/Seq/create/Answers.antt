@@ -6,7 +6,7 @@ use Rattle.mz_log.specs.CarriedOut.{unmakable}
 use Rattle.mz_log.specs.declared.reply.SeqReply.TheVariants.{Created}
 use Rattle.mz_seq.specs.Tables.{bags_had, bags_now, bags_then, before_of, database_of, made_bags, IsDatabase}
 use Rattle.mz_seq.specs.Told.{ComesTo}
-use Rattle.mz_seq.specs.Twice.{Twice}
+use Rattle.mz_marked.specs.Twice.{Twice}
 use Rattle.mz_seq.proofs.DatabaseLemmas.{made_kept}
 use Rattle.mz_seq.proofs.KeptLemmas.{comes_kept, made_after}
 use Rattle.mz_seq.proofs.MarkedLemmas.{had_made, made_next}

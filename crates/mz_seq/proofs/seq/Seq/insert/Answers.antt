@@ -5,7 +5,7 @@ use Rattle.mz_log.specs.CarriedOut.{overfull, rows_in}
 use Rattle.mz_log.specs.declared.reply.SeqReply.TheVariants.{Inserted}
 use Rattle.mz_seq.specs.Asked.{HasTable}
 use Rattle.mz_seq.specs.Tables.{bags_had, bags_now, bags_then, before_of, database_of, IsDatabase}
-use Rattle.mz_seq.specs.Twice.{Twice}
+use Rattle.mz_marked.specs.Twice.{Twice}
 use Rattle.mz_seq.proofs.DatabaseLemmas.{bags_apart, table_there}
 use Rattle.mz_seq.proofs.KeptLemmas.{rows_kept}
 use Rattle.mz_seq.proofs.MarkedLemmas.{had_moved}
