@@ -1,0 +1,10 @@
+pub mod JoinLaws
+pub mod JoinRoom
+pub mod LightSteps
+pub mod LinearLaws
+pub mod OutputLaws
+pub mod PairLaws
+pub mod Runs
+pub mod StepLaws
+pub mod Telling
+pub mod TimeLaws
