@@ -1,0 +1,2 @@
+pub mod HoldBook
+pub mod Kept
