@@ -1,0 +1,10 @@
+use Rattle.std.proofs.Common.{◌-◌, arith}
+use Rattle.mz_rules.specs.Moves.{kept_by as kept_by_of}
+use Rattle.mz_collections.proofs.Under.{changed_place}
+use Rattle.mz_collections.proofs.places.keep_at.Goals as goal
+
+-- no other has the number
+pub returns : goal.returns
+returns c =
+    changed_place 1 (c.args.number - 1) c.args.number (kept_by_of c.args.keep) c.args.all.now.items c.index_mut.result.now c.kept_by.new.this c.requires.numbered
+    (omega (arith, c.requires.made.low)) (omega (arith, c.requires.made.low, c.requires.made.high)) c.index_mut.ensures.value c.kept_by.ensures

@@ -1,0 +1,3 @@
+pub mod CollectionBook
+pub mod Kept
+pub mod Pass
