@@ -1,0 +1,3 @@
+pub mod Well
+pub mod Reads
+pub mod Replays
