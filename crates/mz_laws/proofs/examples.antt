@@ -1,0 +1,5 @@
+pub mod Dropped
+pub mod Written
+pub mod Transaction
+pub mod Rows
+pub mod Followed
