@@ -1,0 +1,10 @@
+pub mod Onward
+pub mod Moves
+pub mod Building
+pub mod Entries
+pub mod OfReads
+pub mod RoundTimes
+pub mod Called
+pub mod Spoken
+pub mod Sound
+pub mod SafeParts
