@@ -1,0 +1,9 @@
+pub mod Starts
+pub mod Rising
+pub mod HoldsRise
+pub mod Due
+pub mod StillDue
+pub mod Rows
+pub mod CalledFor
+pub mod Owed
+pub mod Whole
