@@ -3,3 +3,5 @@ pub mod Written
 pub mod Transaction
 pub mod Rows
 pub mod Followed
+pub mod Halves
+pub mod Reports
