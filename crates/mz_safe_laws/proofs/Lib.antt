@@ -7,4 +7,14 @@ pub mod RoundTimes
 pub mod Called
 pub mod Spoken
 pub mod Sound
+pub mod Reached
+pub mod PacketAnswers
+pub mod PeekLines
+pub mod PeekEnds
+pub mod Incarnations
+pub mod Bundles
+pub mod Reporting
+pub mod Faithful
+pub mod FaithfulReplicas
 pub mod SafeParts
+pub mod Honest

@@ -1,4 +1,4 @@
-//! That nothing told passes a held time, and how far sinces may be.
+//! That nothing told passes a held time, how far sinces may be, and that reports are honest.
 ghost use Rattle.std.specs.List.{AllByRecursion as Each};
 ghost use Rattle.std.specs.Prelude.{ℕ, ◌+◌, ◌≤◌, ◌++◌};
 ghost use Rattle.mz_books.specs.Collections.{collections};
@@ -6,6 +6,7 @@ ghost use Rattle.mz_books.specs.Holds.{holds, pending};
 ghost use Rattle.mz_books.specs.Legal.{Legal};
 ghost use Rattle.mz_log.specs.Log.{Log};
 ghost use Rattle.mz_books.specs.Rounds.{read_time};
+ghost use Rattle.mz_books.specs.Safe.{AreHonest, Safe};
 ghost use Rattle.mz_books.specs.Since.{settled, since};
 ghost use Rattle.mz_books.specs.Streams.{streams};
 ghost use Rattle.mz_rules.specs.Frontiers.{IsWithin};
@@ -50,4 +51,17 @@ pub fn sinces_are_in_range()
         → Each (λ s. IsWithin (read_time log) s.since) (settled log) }
     ensures uppers { (log : Log) → Legal log
         → Each (λ c. c.upper ≤ read_time log + 1) (collections log) }
+{}
+
+/// The reports that count of live replicas are honest: one that has come to a pending peek isn't
+/// past its time, unless the peek is about to be finished. Takes no memory.
+#[tactic(auto, using(crate::proofs::Honest::reports_are_honest))]
+pub fn reports_are_honest()
+    ensures { (log : Log) → Legal log → AreHonest log }
+{}
+
+/// Each legal log is safe: all of the above holds of it. Takes no memory.
+#[tactic(auto, using(crate::proofs::Honest::legal_logs_are_safe))]
+pub fn legal_logs_are_safe()
+    ensures { (log : Log) → Legal log → Safe log }
 {}
