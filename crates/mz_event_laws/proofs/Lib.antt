@@ -7,3 +7,4 @@ pub mod Rows
 pub mod CalledFor
 pub mod Owed
 pub mod Whole
+pub mod GoodLogs
