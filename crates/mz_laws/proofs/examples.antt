@@ -5,3 +5,4 @@ pub mod Rows
 pub mod Followed
 pub mod Halves
 pub mod Reports
+pub mod TrueFeeds

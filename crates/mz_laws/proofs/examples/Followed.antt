@@ -39,7 +39,7 @@ is_read text spelled = record {
 }
 
 -- a feed is made for r1, up to 0
-abbrev fed : Log
+abbrev pub fed : Log
 fed = Fed first_replica 1 2 0 ∷ reading
 
 is_fed : Follows reading (Fed first_replica 1 2 0)
