@@ -1,201 +1,27 @@
 -- The pass: what is settled, from the newest down.
-use Rattle.std.proofs.Common.{◌≡◌, ℕ, zero, suc, ◌+◌, ◌-◌, ◌<◌, ◌≤◌, ◌==◌, Bool, true, false, cond, Some, List, [], ◌∷◌, ◌++◌, length, get_or, set, slice_get, refl, sym, ap, subst, ◌∙◌, arith}
+use Rattle.std.proofs.Common.{◌≡◌, ℕ, ◌+◌, ◌-◌, ◌<◌, ◌≤◌, ◌==◌, Bool, true, false, Some, List, [], ◌∷◌, ◌++◌, length, get_or, set, slice_get, refl, sym, ap, subst, ◌∙◌, arith}
 use Rattle.std.proofs.lemmas.Bool.Decides.{nat_tests}
-use Rattle.std.proofs.lemmas.Bool.{false≢true, or_from}
+use Rattle.std.proofs.lemmas.Bool.{false≢true}
 use Rattle.std.proofs.lemmas.List.{length-append, append_assoc}
 use Rattle.std.specs.List.{list_any, remove, AllByRecursion as Each}
 use Rattle.mz_time.specs.declared.frontier.Frontier.{Frontier}
 use Rattle.mz_time.specs.declared.frontier.Frontier.TheVariants.{Done}
 use Rattle.mz_time.specs.Frontier.{meet}
-use Rattle.mz_counted.proofs.Each.{at_place}
 use Rattle.mz_rules.specs.declared.capability.Settled.{Settled}
 use Rattle.mz_rules.specs.Capabilities.{Capability}
 use Rattle.mz_rules.specs.Frontiers.{is_at}
 use Rattle.mz_rules.specs.Numbering.{Numbered}
-use Rattle.mz_rules.specs.Since.{least_on, least_reader, own, reads, settle}
-use Rattle.mz_rules.proofs.Each.{each_append, each_both, each_left, each_map, each_of, each_right, each_unmap}
+use Rattle.mz_rules.specs.Since.{least_reader, own, settle}
+use Rattle.mz_rules.proofs.Each.{each_append, each_both, each_left, each_of, each_right}
 use Rattle.mz_rules.proofs.Exact.{settled_are}
 use Rattle.mz_collections.specs.CollectionBook.{collections_of}
 use Rattle.mz_collections.specs.Kept.{live_of, passed_to, passed_on, put_at, AreAtRest, AreIdle, IsOlder, ReadOlderOnes}
-use Rattle.mz_collections.specs.Pass.{at_since, CanSettle, IsHalfway, IsSettledAt, StayDone, since_at}
-use Rattle.mz_collections.proofs.Settling.{both_done, least_of_both, not_at, at_done, live_here, live_later, live_both, all_done}
+use Rattle.mz_collections.specs.Pass.{at_since, CanSettle, IsHalfway, IsSettledAt, since_at}
+use Rattle.mz_collections.proofs.Stays.{done_readers, stay_behind, at_rest_behind, rest_settled}
+use Rattle.mz_collections.proofs.LastLive.{LastLive, last_live}
+use Rattle.mz_collections.proofs.Parts.{there, set_there, remove_there, number_there, numbers_below, numbers_above, reads_no_newer, coll_both, append_none, same_length, older_same}
+use Rattle.mz_collections.proofs.Settling.{at_done, live_here, live_later, live_both, all_done}
 use Rattle.mz_collections.proofs.Under.{is_it, is_other}
-
--- ---- what is done
-
-done_readers : (n : ℕ) (post ys : List Settled) → Each (λ s. is_at s.since ≡ false) post → least_reader n (post ++ ys) ≡ least_reader n ys
-done_readers n [] ys p = refl
-done_readers n (x ∷ post) ys p =
-    ap (λ f. cond (reads n x.collection) (meet f (least_reader n (post ++ ys))) (least_reader n (post ++ ys))) (not_at x.since p.0)
-    ∙ by (reads n x.collection) ∙ done_readers n post ys p.1
-  where
-    by : (b : Bool) → cond b (meet Done (least_reader n (post ++ ys))) (least_reader n (post ++ ys)) ≡ least_reader n (post ++ ys)
-    by true = refl
-    by false = refl
-
-stay_behind : (post xs ys : List Settled) → StayDone xs ys → StayDone (post ++ xs) (post ++ ys)
-stay_behind [] xs ys s = s
-stay_behind (x ∷ post) xs ys s = ((refl, λ d. d), stay_behind post xs ys s)
-
-readers_stay : (n : ℕ) (xs ys : List Settled) → StayDone xs ys → least_reader n xs ≡ Done → least_reader n ys ≡ Done
-readers_stay n [] [] s e = refl
-readers_stay n [] (y ∷ ys) s e = absurd s
-readers_stay n (x ∷ xs) [] s e = absurd s
-readers_stay n (x ∷ xs) (y ∷ ys) s e =
-    ap (λ c. cond (reads n c) (meet y.since (least_reader n ys)) (least_reader n ys)) s.0.0 ∙ by (reads n x.collection) e (readers_stay n xs ys s.1)
-  where
-    by : (b : Bool) → cond b (meet x.since (least_reader n xs)) (least_reader n xs) ≡ Done → (least_reader n xs ≡ Done → least_reader n ys ≡ Done)
-        → cond b (meet y.since (least_reader n ys)) (least_reader n ys) ≡ Done
-    by true k ih =
-        let p = both_done x.since (least_reader n xs) k in
-        (λ i. meet (s.0.1 p.0 i) (ih p.1 i))
-    by false k ih = ih k
-
-at_rest_behind : (hs ps : List Capability) (pre xs : List Settled) → AreAtRest hs ps (pre ++ xs) → AreAtRest hs ps xs
-at_rest_behind hs ps [] xs r = r
-at_rest_behind hs ps (x ∷ pre) xs r = at_rest_behind hs ps pre xs r.1
-
--- those that are done come to what they are
-rest_settled : (hs ps : List Capability) (post xs ys : List Settled) → AreAtRest hs ps (post ++ xs) → Each (λ s. is_at s.since ≡ false) post → StayDone xs ys
-    → ys ≡ settle (hs ++ ps) (collections_of xs) → settle (hs ++ ps) (collections_of (post ++ xs)) ≡ post ++ ys
-rest_settled hs ps [] xs ys r p s e = sym e
-rest_settled hs ps (x ∷ post) xs ys r p s e =
-    let ih = rest_settled hs ps post xs ys r.1 p.1 s e in
-    let done = not_at x.since p.0 in
-    let q = r.0 done in
-    let n = x.collection.number in
-    let mine : own (hs ++ ps) x.collection ≡ Done
-    = (λ i. meet (q.implied i) (least_on n (hs ++ ps))) ∙ least_of_both n hs ps ∙ (λ i. meet (q.hold i) (q.peek i)) in
-    let read : least_reader n (settle (hs ++ ps) (collections_of (post ++ xs))) ≡ Done
-    = ap (least_reader n) ih ∙ readers_stay n (post ++ xs) (post ++ ys) (stay_behind post xs ys s) q.reader in
-    let since : meet (own (hs ++ ps) x.collection) (least_reader n (settle (hs ++ ps) (collections_of (post ++ xs)))) ≡ x.since
-    = (λ i. meet (mine i) (read i)) ∙ sym done in
-    (λ i. at_since x (since i) ∷ ih i)
-
--- ---- the last of those that are live
-
-pub record LastLive (older : List Settled) (place number : ℕ) : Type 0 where
-  pub pre : List Settled
-  pub s : Settled
-  pub post : List Settled
-  pub is : older ≡ pre ++ s ∷ post
-  pub number_is : s.collection.number ≡ number
-  pub live : is_at s.since ≡ true
-  pub rest : live_of post ≡ []
-  pub here : place ≡ length (live_of pre)
-
-last_live : (older : List Settled) (place number : ℕ) (ms : List ℕ) (d : ℕ) → length (live_of older) ≡ place + 1 → number ≡ get_or (live_of older ++ ms) place d
-    → LastLive older place number
-last_live [] place number ms d l e = absurd (omega (arith, l))
-last_live (x ∷ xs) place number ms d l e = by (is_at x.since) refl (live_of xs) refl place l e (λ p a b. last_live xs p number ms d a b)
-  where
-    by : (b : Bool) → is_at x.since ≡ b → (ns : List ℕ) → live_of xs ≡ ns → (p : ℕ) → length (live_of (x ∷ xs)) ≡ p + 1 → number ≡ get_or (live_of (x ∷ xs) ++ ms) p d
-        → ((q : ℕ) → length (live_of xs) ≡ q + 1 → number ≡ get_or (live_of xs ++ ms) q d → LastLive xs q number) → LastLive (x ∷ xs) p number
-    by true k [] n p a b ih =
-        let one : live_of (x ∷ xs) ≡ x.collection.number ∷ [] = live_here x xs k ∙ ap (λ ns. x.collection.number ∷ ns) n in
-        let first : p ≡ 0 = omega (arith, a, ap length one) in
-        record {
-          pre = [];
-          s = x;
-          post = xs;
-          is = refl;
-          number_is = sym (b ∙ ap (λ q. get_or (live_of (x ∷ xs) ++ ms) q d) first ∙ ap (λ ns. get_or (ns ++ ms) 0 d) one);
-          live = k;
-          rest = n;
-          here = first;
-        }
-    by true k (m ∷ ns) n zero a b ih = absurd (omega (arith, a, ap length (live_here x xs k), ap length n))
-    by true k (m ∷ ns) n (suc p) a b ih =
-        let l = ih p (omega (arith, a, ap length (live_here x xs k))) (b ∙ ap (λ ks. get_or (ks ++ ms) (suc p) d) (live_here x xs k)) in
-        record {
-          pre = x ∷ l.pre;
-          s = l.s;
-          post = l.post;
-          is = ap (λ ys. x ∷ ys) l.is;
-          number_is = l.number_is;
-          live = l.live;
-          rest = l.rest;
-          here = ap suc l.here ∙ sym (ap length (live_here x l.pre k));
-        }
-    by false k ns n p a b ih =
-        let l = ih p (sym (ap length (live_later x xs k)) ∙ a) (b ∙ ap (λ ks. get_or (ks ++ ms) p d) (live_later x xs k)) in
-        record {
-          pre = x ∷ l.pre;
-          s = l.s;
-          post = l.post;
-          is = ap (λ ys. x ∷ ys) l.is;
-          number_is = l.number_is;
-          live = l.live;
-          rest = l.rest;
-          here = l.here ∙ sym (ap length (live_later x l.pre k));
-        }
-
--- ---- lists in parts
-
-there : {A : Type 0} (xs : List A) (x : A) (ys : List A) → slice_get (xs ++ x ∷ ys) (length xs) ≡ Some x
-there [] x ys = refl
-there (y ∷ xs) x ys = there xs x ys
-
-set_there : {A : Type 0} (xs : List A) (x z : A) (ys : List A) → set (xs ++ x ∷ ys) (length xs) z ≡ xs ++ z ∷ ys
-set_there [] x z ys = refl
-set_there (y ∷ xs) x z ys = ap (λ ws. y ∷ ws) (set_there xs x z ys)
-
-remove_there : {A : Type 0} (xs : List A) (x : A) (ys : List A) → remove (xs ++ x ∷ ys) (length xs) ≡ xs ++ ys
-remove_there [] x ys = refl
-remove_there (y ∷ xs) x ys = ap (λ ws. y ∷ ws) (remove_there xs x ys)
-
-number_there : (k : ℕ) (xs : List Settled) (x : Settled) (ys : List Settled) → Numbered k (collections_of (xs ++ x ∷ ys)) → x.collection.number ≡ k + length xs
-number_there k [] x ys n = omega (arith, n.0)
-number_there k (y ∷ xs) x ys n = omega (arith, number_there (k + 1) xs x ys n.1)
-
-numbers_below : (k : ℕ) (xs : List Settled) (x : Settled) (ys : List Settled) → Numbered k (collections_of (xs ++ x ∷ ys)) → 0 < k
-    → Each (λ y. (0 < y.collection.number) × (y.collection.number < x.collection.number)) xs
-numbers_below k [] x ys n h = tt
-numbers_below k (y ∷ xs) x ys n h = (
-  (omega (arith, n.0, h), omega (arith, n.0, number_there (k + 1) xs x ys n.1)),
-  numbers_below (k + 1) xs x ys n.1 (omega arith),
-)
-
-numbers_from : (k : ℕ) (xs : List Settled) → Numbered k (collections_of xs) → Each (λ y. k ≤ y.collection.number) xs
-numbers_from k [] n = tt
-numbers_from k (y ∷ xs) n = (
-  omega (arith, n.0),
-  each_of (λ z. k + 1 ≤ z.collection.number) (λ z. k ≤ z.collection.number) (λ z h. omega (arith, h)) xs (numbers_from (k + 1) xs n.1),
-)
-
-numbers_above : (k : ℕ) (xs : List Settled) (x : Settled) (ys : List Settled) → Numbered k (collections_of (xs ++ x ∷ ys)) → Each (λ y. x.collection.number < y.collection.number) ys
-numbers_above k [] x ys n = each_of (λ z. k + 1 ≤ z.collection.number) (λ z. x.collection.number < z.collection.number) (λ z h. omega (arith, h, n.0)) ys (numbers_from (k + 1) ys n.1)
-numbers_above k (y ∷ xs) x ys n = numbers_above (k + 1) xs x ys n.1
-
-reads_no_newer : (number bound : ℕ) (inputs : List ℕ) → Each (IsOlder bound) inputs → bound ≤ number → list_any (λ input. input == number) inputs ≡ false
-reads_no_newer number bound [] p h = refl
-reads_no_newer number bound (i ∷ inputs) p h =
-    or_from (i == number) (list_any (λ input. input == number) inputs) (grind (arith, nat_tests, p.0.high, h)) (reads_no_newer number bound inputs p.1 h)
-
-coll_both : (xs ys : List Settled) → collections_of (xs ++ ys) ≡ collections_of xs ++ collections_of ys
-coll_both [] ys = refl
-coll_both (x ∷ xs) ys = ap (λ cs. x.collection ∷ cs) (coll_both xs ys)
-
-append_none : {A : Type 0} (xs : List A) → xs ++ [] ≡ xs
-append_none [] = refl
-append_none (x ∷ xs) = ap (λ ys. x ∷ ys) (append_none xs)
-
--- ---- what holds of collections holds whatever their sinces are
-
-pub same_length : (xs ys : List Settled) → collections_of xs ≡ collections_of ys → length xs ≡ length ys
-same_length xs ys e = sym (many xs) ∙ ap length e ∙ many ys
-  where
-    many : (ss : List Settled) → length (collections_of ss) ≡ length ss
-    many [] = refl
-    many (s ∷ ss) = ap suc (many ss)
-
-pub older_same : (xs ys : List Settled) → collections_of xs ≡ collections_of ys → ReadOlderOnes xs → ReadOlderOnes ys
-older_same xs ys e p =
-    each_unmap (λ s. Each (IsOlder s.collection.number) s.collection.inputs) (λ c. Each (IsOlder c.number) c.inputs) (λ s. s.collection) (λ s q. q) ys
-    (subst (Each (λ c. Each (IsOlder c.number) c.inputs)) e
-    (each_map (λ s. Each (IsOlder s.collection.number) s.collection.inputs) (λ c. Each (IsOlder c.number) c.inputs) (λ s. s.collection) (λ s q. q) xs p))
-
--- ---- the pass
 
 pub halfway_start : (kept : List Capability) (all : List Settled) (over : List Frontier) (live : List ℕ) (place : ℕ) → live ≡ live_of all → AreIdle over all → place ≡ length live
     → IsHalfway kept all all over live place
@@ -371,33 +197,3 @@ halfway_end hs ps before all over live place rest h z =
     empty : (ns : List ℕ) → length ns ≡ 0 → ns ≡ []
     empty [] e = refl
     empty (n ∷ ns) e = absurd (omega (arith, e))
-
--- ---- one collection
-
-number_at : (k p : ℕ) (ss : List Settled) (d : Settled) → Numbered k (collections_of ss) → p < length ss → (get_or ss p d).collection.number ≡ k + p
-number_at k p [] d n h = absurd (omega (arith, h))
-number_at k zero (x ∷ ss) d n h = omega (arith, n.0)
-number_at k (suc p) (x ∷ ss) d n h = omega (arith, number_at (k + 1) p ss d n.1 (omega (arith, h)))
-
--- what a collection reads is below the number of all
-pub inputs_below : (number m : ℕ) (all : List Settled) (over : List Frontier) (d : Settled) → CanSettle number all over → m ≡ length over + 1
-    → Each (IsOlder m) (get_or all (number - 1) d).collection.inputs
-inputs_below number m all over d can e =
-    let within : number - 1 < length all = omega (arith, can.low, can.high) in
-    let x = get_or all (number - 1) d in
-    let is : x.collection.number ≡ 1 + (number - 1) = number_at 1 (number - 1) all d can.numbered within in
-    each_of (IsOlder x.collection.number) (IsOlder m) (λ i o. record { low = o.low; high = omega (arith, o.high, is, e, can.as_many, can.low, can.high) }) x.collection.inputs
-    (at_place (λ s. Each (IsOlder s.collection.number) s.collection.inputs) all can.older (number - 1) d within)
-
-pub older_later : (m n : ℕ) (inputs : List ℕ) → m ≡ n → Each (IsOlder m) inputs → Each (IsOlder n) inputs
-older_later m n inputs e p = subst (λ k. Each (IsOlder k) inputs) e p
-
-pub got : {A : Type 0} (p : ℕ) (xs : List A) (y d : A) → p < length xs → get_or (set xs p y) p d ≡ y
-got p [] y d h = absurd (omega (arith, h))
-got zero (x ∷ xs) y d h = refl
-got (suc p) (x ∷ xs) y d h = got p xs y d (omega (arith, h))
-
-pub found_get : {A : Type 0} (p : ℕ) (xs : List A) (s d : A) → slice_get xs p ≡ Some s → get_or xs p d ≡ s
-found_get p [] s d e = absurd (cc)
-found_get zero (x ∷ xs) s d e = cc
-found_get (suc p) (x ∷ xs) s d e = found_get p xs s d e

@@ -1,7 +1,10 @@
 pub mod Halfway
+pub mod LastLive
+pub mod Parts
 pub mod Passing
 pub mod Peeked
 pub mod Resting
 pub mod Settling
 pub mod Standing
+pub mod Stays
 pub mod Under

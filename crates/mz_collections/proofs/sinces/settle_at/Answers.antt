@@ -7,7 +7,7 @@ use Rattle.mz_rules.specs.Frontiers.{is_at}
 use Rattle.mz_rules.specs.Since.{own}
 use Rattle.mz_collections.specs.Kept.{passed_on, passed_to, IsOlder}
 use Rattle.mz_collections.specs.Pass.{at_since, since_at}
-use Rattle.mz_collections.proofs.Halfway.{found_get, got, inputs_below}
+use Rattle.mz_collections.proofs.Parts.{found_get, got, inputs_below}
 use Rattle.mz_collections.proofs.sinces.settle_at.Goals as goal
 
 -- it reads older ones
