@@ -20,7 +20,8 @@ use Rattle.mz_books.specs.Legal.{Legal}
 use Rattle.mz_call_laws.proofs.Lists.{each_has, has_from}
 use Rattle.mz_call_laws.proofs.Timed.{timed}
 use Rattle.mz_replay_laws.specs.Replays.{after_calls, calls_until}
-use Rattle.mz_replay_laws.proofs.Buckets.{by_time_upto, until_upto}
+use Rattle.mz_call_laws.proofs.Buckets.{by_time_upto}
+use Rattle.mz_replay_laws.proofs.UpTo.{until_upto}
 use Rattle.mz_replay_laws.proofs.Reaches.{Reaches, after_at, before, buckets_replay, reaches_more}
 use Rattle.mz_replay_laws.proofs.Replayed.{applied_bucket}
 use Rattle.mz_replay_laws.proofs.ToldCalls.{cancelled_plain, end_reaches, finish_reaches, refusal_reaches}

@@ -17,7 +17,7 @@ pub mod ReadPlans
 pub mod Peeks
 pub mod PeekRows
 pub mod PeekTold
-pub mod Buckets
+pub mod UpTo
 pub mod Reaches
 pub mod Usual
 pub mod RoundCalls

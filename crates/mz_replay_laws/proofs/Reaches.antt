@@ -8,7 +8,7 @@ use Rattle.mz_books.specs.History.{IsReplyFrom, ReplayFrom, after_call, after_re
 use Rattle.mz_log.specs.Sequential.{Sequential, opening}
 use Rattle.mz_call_laws.specs.Calls.{calls_at}
 use Rattle.mz_replay_laws.specs.Replays.{after_calls}
-use Rattle.mz_replay_laws.proofs.Buckets.{upto}
+use Rattle.mz_call_laws.proofs.Buckets.{upto}
 
 -- the call has a reply that it may have, and a read stands where its time has the state that it ends with
 pub record IsFine (end state : Sequential) (call : Call) : Type 0 where

@@ -3,7 +3,6 @@ pub mod Moves
 pub mod Building
 pub mod Entries
 pub mod OfReads
-pub mod RoundTimes
 pub mod Called
 pub mod Spoken
 pub mod Sound

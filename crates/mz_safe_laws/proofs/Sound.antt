@@ -29,7 +29,7 @@ use Rattle.mz_laws.proofs.Accepted.{entry_made}
 use Rattle.mz_safe_laws.proofs.Onward.{GoesOn, goes_on}
 use Rattle.mz_safe_laws.proofs.Moves.{stays}
 use Rattle.mz_safe_laws.proofs.Entries.{CoreOf, GoesTo, absorbed_goes, acquire_goes, apply_goes, cancel_goes, down_goes, finish_goes, release_goes}
-use Rattle.mz_safe_laws.proofs.RoundTimes.{round_later}
+use Rattle.mz_call_laws.proofs.Times.{round_later}
 use Rattle.mz_safe_laws.proofs.Called.{call_goes}
 use Rattle.mz_safe_laws.proofs.Spoken.{SaysWell, IsEarly, allowances_well, asking_well, core_within, ending_well, frontiers_timely, joining_well, new_lines_well, well_append, well_later}
 
