@@ -1,10 +1,11 @@
 #!/usr/bin/env python3
-"""Compares what a program says of random statements with the model beside this repository:
-explanations.py PROGRAM [--seed N] [--count N]
+"""Compares what `statements explain` says of random statements with the model beside this repository:
+explanations.py PROGRAM [--seed N] [--count N] [--keep FOLDER]
 
-PROGRAM reads one statement a line, over a catalog that the statements change, and says what each asks for: the plan of a
-query, or what a command does; or its refusal. Some lines name the cluster whose indexes are used from then on. Each
-difference is printed; the status is 0 only where there is none.
+`PROGRAM explain` reads one statement a line, over a catalog that the statements change, and says what each asks for: the
+plan of a query, or what a command does; or its refusal. Some lines name the cluster whose indexes are used from then on.
+Each difference is printed; the status is 0 only where there is none. With --keep the statements of the first run and what
+is to be said of them go into files of FOLDER, for a comparison without the model.
 """
 
 import argparse
@@ -149,7 +150,7 @@ def lines_of(source):
 def differences(program, lines):
     """Prints each line of which the program says something else, and counts them."""
     text = "".join(line + "\n" for line, _ in lines)
-    done = subprocess.run([program], input=text.encode(), capture_output=True)
+    done = subprocess.run([program, "explain"], input=text.encode(), capture_output=True)
     said = done.stdout.decode().split("\n")[:-1]
     failed = abs(len(lines) - len(said)) + (done.returncode != 0)
     for (line, wanted), one in zip(lines, said):
@@ -164,11 +165,15 @@ def main():
     words.add_argument("program")
     words.add_argument("--seed", type=int, default=1)
     words.add_argument("--count", type=int, default=4000)
+    words.add_argument("--keep", type=pathlib.Path)
     asked = words.parse_args()
     source = random.Random(asked.seed)
     failed = refused = 0
-    for _ in range(asked.count // LINES_OF_A_RUN):
+    for run in range(asked.count // LINES_OF_A_RUN):
         lines = list(lines_of(source))
+        if asked.keep and run == 0:
+            (asked.keep / "explain.in").write_text("".join(line + "\n" for line, _ in lines))
+            (asked.keep / "explain.out").write_text("".join(wanted + "\n" for _, wanted in lines))
         failed += differences(asked.program, lines)
         refused += sum(wanted.startswith("refused") for _, wanted in lines)
     print(f"{asked.count} statements ({refused} of them refused), {failed} differ")

@@ -41,7 +41,7 @@ def layers_in_picture(text, names):
         begun = next((name for name in names if line.startswith(name + "  ")), None)
         layer = begun or layer
         if layer:
-            found.setdefault(layer, []).extend(re.findall(r"\b(?:mz_\w+|coordinate|reprint|explain)\b", line))
+            found.setdefault(layer, []).extend(name.strip() for name in re.findall(r"\b(?:mz_\w+\b|coordinate\b|statements  )", line))
     return found
 
 

@@ -1,10 +1,11 @@
 #!/usr/bin/env python3
-"""Compares what a program makes of random statements with the model beside this repository:
-statements.py PROGRAM [--seed N] [--count N]
+"""Compares what `statements print` makes of random statements with the model beside this repository:
+statements.py PROGRAM [--seed N] [--count N] [--keep FOLDER]
 
-PROGRAM reads one statement a line, and prints each in its one form, or its refusal. Some of the statements
+`PROGRAM print` reads one statement a line, and prints each in its one form, or its refusal. Some of the statements
 are spelled oddly, and some have one place changed so that they mostly are no statements. Each difference is
-printed; the status is 0 only where there is none.
+printed; the status is 0 only where there is none. With --keep the statements and what is to be printed of them go
+into files of FOLDER, for a comparison without the model.
 """
 
 import argparse
@@ -56,9 +57,13 @@ def main():
     words.add_argument("program")
     words.add_argument("--seed", type=int, default=1)
     words.add_argument("--count", type=int, default=2000)
+    words.add_argument("--keep", type=pathlib.Path)
     asked = words.parse_args()
     lines = list(texts(random.Random(asked.seed), asked.count))
-    done = subprocess.run([asked.program], input="".join(line + "\n" for line in lines).encode(), capture_output=True)
+    if asked.keep:
+        (asked.keep / "print.in").write_text("".join(line + "\n" for line in lines))
+        (asked.keep / "print.out").write_text("".join(expected(line) + "\n" for line in lines))
+    done = subprocess.run([asked.program, "print"], input="".join(line + "\n" for line in lines).encode(), capture_output=True)
     printed = done.stdout.decode().split("\n")[:-1]
     failed = abs(len(lines) - len(printed)) + (done.returncode != 0)
     for line, one in zip(lines, printed):

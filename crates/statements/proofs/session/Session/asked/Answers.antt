@@ -11,7 +11,7 @@ use Rattle.mz_select.specs.Gives.{Is}
 use Rattle.mz_resolve.specs.InCatalog.{scope_in}
 use Rattle.mz_seq.specs.Asked.{IsAsked}
 use Rattle.mz_seq.specs.Tables.{catalog_of}
-use Rattle.explain.proofs.session.Session.asked.Goals as goal
+use Rattle.statements.proofs.session.Session.asked.Goals as goal
 
 -- what is found in the catalog of a database
 found_there : (database : Database) (cluster : ℕ) (statement : Statement) (catalog : CatalogState) (found : Result Resolved CallFault)
