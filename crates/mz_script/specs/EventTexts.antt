@@ -18,6 +18,10 @@ line_of words = words ++ line_end
 abbrev pub unreadable_text : ℕ → List ℕ
 unreadable_text line = codes "line " ++ (decimal line ++ (codes " is unreadable" ++ line_end))
 
+-- a line that isn't built
+abbrev pub unbuilt_text : ℕ → List ℕ
+unbuilt_text line = codes "line " ++ (decimal line ++ (codes " is not built" ++ line_end))
+
 -- ---- sessions
 
 -- a call: the name of its session and its number there

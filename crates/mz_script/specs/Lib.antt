@@ -5,3 +5,6 @@ pub mod ScriptLine
 pub mod Script
 pub mod Machine
 pub mod LineEvents
+pub mod Words
+pub mod Lines
+pub mod Built

@@ -9,7 +9,9 @@ use Rattle.mz_books.specs.Streams.{replica_cluster}
 use Rattle.mz_books.specs.Given.{Given}
 use Rattle.mz_books.specs.GivenReplicas.{FeedRefusal, add_cluster_given, add_given, crash_given, rejoin_given}
 use Rattle.mz_script.specs.EventTexts.{unreadable_text}
-use Rattle.mz_script.specs.ScriptLine.{Machine, LiveReplica, NumberedFeed, Said, ScriptLine, Skipped, Unreadable, Says, Tick, BeginRound, FinishRound, CommitRound, Settle, AddReplica, CrashReplica, RejoinReplica, AddCluster, MakeFeed, TakeFeed, AbsorbPacket, TakeHold, MoveHold, GiveBack, CancelCall, CloseSession, and_then, only_says, says}
+use Rattle.mz_script.specs.declared.script_line.ScriptLine.{ScriptLine}
+use Rattle.mz_script.specs.declared.script_line.ScriptLine.TheVariants.{Skipped, Unreadable, Says, Tick, BeginRound, FinishRound, CommitRound, Settle, AddReplica, CrashReplica, RejoinReplica, AddCluster, MakeFeed, TakeFeed, AbsorbPacket, TakeHold, MoveHold, GiveBack, CancelCall, CloseSession}
+use Rattle.mz_script.specs.ScriptLine.{Machine, LiveReplica, NumberedFeed, Said, and_then, only_says, says}
 use Rattle.mz_script.specs.Script.{begins, cancels, closes, commits, finishes, finishes_if_open, free_hold, gives_back, moves_hold, session_place, session_says, takes_hold}
 use Rattle.mz_script.specs.Machine.{absorbs, absorbs_packet, added, answer_text, answers_to, cluster_number, crashed, feed_at, joins, makes_feed, moved_on, own_feed, replica_called, takes_feed}
 

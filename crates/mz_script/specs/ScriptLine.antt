@@ -1,32 +1,8 @@
--- The lines of a script, once they are read, and the machine that they go over.
-use Rattle.std.specs.Prelude.{ℕ, List, [], ◌∷◌, ◌++◌, Option}
-use Rattle.mz_grammar.specs.declared.asked.Asked.{Asked}
+-- The machine that the lines of a script go over, and what a line does to it.
+use Rattle.std.specs.Prelude.{ℕ, List, [], ◌∷◌, ◌++◌}
 use Rattle.mz_plan.specs.declared.command.Place.{Place}
 use Rattle.mz_log.specs.Log.{Log}
 use Rattle.mz_books.specs.Streams.{first_replica}
-
--- what a line says: nothing, nothing that can be read, that a session says a text which asks for something, or what is to be done
-pub data ScriptLine : Type 0 where
-  Skipped : ScriptLine
-  Unreadable : ScriptLine
-  Says : (name text : List ℕ) (asked : Asked) → ScriptLine
-  Tick : (moment : ℕ) → ScriptLine
-  BeginRound : ScriptLine
-  FinishRound : ScriptLine
-  CommitRound : ScriptLine
-  Settle : ScriptLine
-  AddReplica : (replica cluster : List ℕ) → ScriptLine
-  CrashReplica : (replica : List ℕ) → ScriptLine
-  RejoinReplica : (replica : List ℕ) → ScriptLine
-  AddCluster : (cluster : List ℕ) → ScriptLine
-  MakeFeed : (replica : List ℕ) (upto : Option ℕ) → ScriptLine
-  TakeFeed : (feed : ℕ) → ScriptLine
-  AbsorbPacket : (packet : ℕ) → ScriptLine
-  TakeHold : (name : List ℕ) (time : ℕ) → ScriptLine
-  MoveHold : (hold time : ℕ) → ScriptLine
-  GiveBack : (hold : ℕ) → ScriptLine
-  CancelCall : (name : List ℕ) → ScriptLine
-  CloseSession : (name : List ℕ) → ScriptLine
 
 -- a feed: for which replica, for which place of it, and its front, the log that ends with it. A packet is told by the feed that its
 -- replica took

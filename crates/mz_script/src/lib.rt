@@ -1,4 +1,8 @@
-//! Scripts of all SQL, as definitions: what a line says, what it adds to the log, and the text that answers it.
-//! Promises nothing by code (`specs/`); the shell that will carry scripts out is held to it.
-//! Stands on `mz_books` for what a log determines and what a call is given; `mz_laws` has worked scripts.
+//! Scripts of all SQL: what a line says, what it adds to the log, and the text that answers it.
+//! Promises which lines are built (`is_built`); what lines say and do are definitions yet (`specs/`).
+//! Stands on `mz_sql` for what a text asks for, and on `mz_books` for what a log determines and what a call is given.
 #![tactic(auto)]
+
+mod script_line;
+
+pub use script_line::ScriptLine;

@@ -5,7 +5,8 @@ use Rattle.mz_statement.specs.declared.statement.Keep.TheVariants.{Lag}
 use Rattle.mz_statement.specs.declared.statement.Statement.{Statement}
 use Rattle.mz_statement.specs.declared.statement.Statement.TheVariants.{Query, CreateTable, CreateView, DropTable, Retain, ShowFrontiers, Start, Commit}
 use Rattle.mz_grammar.specs.declared.asked.Asked.TheVariants as asks
-use Rattle.mz_script.specs.ScriptLine.{ScriptLine, Says, CommitRound, TakeHold, MoveHold, GiveBack}
+use Rattle.mz_script.specs.declared.script_line.ScriptLine.{ScriptLine}
+use Rattle.mz_script.specs.declared.script_line.ScriptLine.TheVariants.{Says, CommitRound, TakeHold, MoveHold, GiveBack}
 use Rattle.mz_laws.specs.examples.Logs.{all_of, create_ix, select_kv_at}
 use Rattle.mz_laws.specs.examples.Scripts.{answered, s1, s2, texts}
 

@@ -1,6 +1,6 @@
 -- Calls that are cancelled, sessions that are closed, and time that is spent.
 use Rattle.std.specs.Prelude.{◌≡◌, [], ◌∷◌, codes}
-use Rattle.mz_script.specs.ScriptLine.{CrashReplica, CancelCall, CloseSession, BeginRound, FinishRound, CommitRound, Tick}
+use Rattle.mz_script.specs.declared.script_line.ScriptLine.TheVariants.{CrashReplica, CancelCall, CloseSession, BeginRound, FinishRound, CommitRound, Tick}
 use Rattle.mz_laws.specs.examples.Logs.{create_ix, drop_ix, select_kv}
 use Rattle.mz_laws.specs.examples.Scripts.{answered, s1, texts}
 

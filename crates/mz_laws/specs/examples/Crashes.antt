@@ -4,7 +4,7 @@ use Rattle.mz_plan.specs.declared.command.Place.{Place}
 use Rattle.mz_books.specs.Streams.{live_stream}
 use Rattle.mz_script.specs.EventTexts.{finished_text}
 use Rattle.mz_books.specs.GivenReplicas.{OldIncarnation, Ahead, feed_given}
-use Rattle.mz_script.specs.ScriptLine.{CrashReplica, CommitRound, RejoinReplica, Settle}
+use Rattle.mz_script.specs.declared.script_line.ScriptLine.TheVariants.{CrashReplica, CommitRound, RejoinReplica, Settle}
 use Rattle.mz_laws.specs.examples.Logs.{select_kv}
 use Rattle.mz_laws.specs.examples.Scripts.{answered, feed_r1, no_rows, s1, texts}
 

@@ -1,6 +1,6 @@
 -- Lines that name what there isn't.
 use Rattle.std.specs.Prelude.{◌≡◌, [], ◌∷◌, Some, codes}
-use Rattle.mz_script.specs.ScriptLine.{Unreadable, FinishRound, TakeFeed, AbsorbPacket, MakeFeed, RejoinReplica, AddReplica, GiveBack, CancelCall, Tick, BeginRound, CommitRound}
+use Rattle.mz_script.specs.declared.script_line.ScriptLine.TheVariants.{Unreadable, FinishRound, TakeFeed, AbsorbPacket, MakeFeed, RejoinReplica, AddReplica, GiveBack, CancelCall, Tick, BeginRound, CommitRound}
 use Rattle.mz_laws.specs.examples.Scripts.{answered, texts}
 
 -- lines that nothing can be made of are counted

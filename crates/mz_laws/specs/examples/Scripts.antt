@@ -7,7 +7,9 @@ use Rattle.mz_bag.specs.Weighted.{Weighted, bag_of}
 use Rattle.mz_statement.specs.declared.statement.Statement.{Statement}
 use Rattle.mz_grammar.specs.declared.asked.Asked.TheVariants as asks
 use Rattle.mz_script.specs.EventTexts.{absorbed_text, finished_text, line_of}
-use Rattle.mz_script.specs.ScriptLine.{ScriptLine, Says, MakeFeed, opening_machine}
+use Rattle.mz_script.specs.declared.script_line.ScriptLine.{ScriptLine}
+use Rattle.mz_script.specs.declared.script_line.ScriptLine.TheVariants.{Says, MakeFeed}
+use Rattle.mz_script.specs.ScriptLine.{opening_machine}
 use Rattle.mz_script.specs.LineEvents.{after_lines}
 
 -- the session s1 says a statement

@@ -1,6 +1,6 @@
 -- Feeds that are for another place than that where the replica stands.
 use Rattle.std.specs.Prelude.{◌≡◌, [], ◌∷◌, codes}
-use Rattle.mz_script.specs.ScriptLine.{CrashReplica, RejoinReplica, TakeFeed}
+use Rattle.mz_script.specs.declared.script_line.ScriptLine.TheVariants.{CrashReplica, RejoinReplica, TakeFeed}
 use Rattle.mz_laws.specs.examples.Scripts.{answered, feed_r1, texts}
 
 -- a replica that was lost takes no feed; joined again, it takes none that was made before, nor one twice for one place

@@ -1,7 +1,7 @@
 -- Peeks that two replicas answer, packets that come late or twice, and feeds that end before the time of a peek.
 use Rattle.std.specs.Prelude.{◌≡◌, [], ◌∷◌, ◌++◌, None, Some, codes}
 use Rattle.mz_statement.specs.declared.statement.Statement.TheVariants.{ShowFrontiers}
-use Rattle.mz_script.specs.ScriptLine.{AddReplica, CommitRound, MakeFeed, TakeFeed, AbsorbPacket}
+use Rattle.mz_script.specs.declared.script_line.ScriptLine.TheVariants.{AddReplica, CommitRound, MakeFeed, TakeFeed, AbsorbPacket}
 use Rattle.mz_laws.specs.examples.Logs.{create_ix, drop_ix, select_kv}
 use Rattle.mz_laws.specs.examples.Scripts.{absorbed_one, answered, feed_r1, s1, s2, texts}
 
