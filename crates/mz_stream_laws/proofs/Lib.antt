@@ -1,0 +1,10 @@
+pub mod Put
+pub mod Kept
+pub mod Asked
+pub mod RoundKeeps
+pub mod IndexPlaces
+pub mod PeekPlaces
+pub mod StreamsFit
+pub mod Answered
+pub mod Grows
+pub mod Later
