@@ -1,0 +1,10 @@
+pub mod Appended
+pub mod Submissions
+pub mod Refusals
+pub mod Changed
+pub mod Spending
+pub mod RoundEnds
+pub mod RoundSeen
+pub mod Turning
+pub mod TurnLeaves
+pub mod SpentLeaves
