@@ -8,3 +8,5 @@ pub mod RoundSeen
 pub mod Turning
 pub mod TurnLeaves
 pub mod SpentLeaves
+pub mod Unopened
+pub mod WaitingRows

@@ -1,5 +1,5 @@
 -- What a call that is refused as it is submitted changes of what sessions have.
-use Rattle.std.proofs.Common.{◌≡◌, ℕ, ◌+◌, ◌<◌, Bool, true, false, cond, ◌==◌, ◌&&◌, ◌||◌, List, [], ◌∷◌, ◌++◌, length, map, Some, None, refl, sym, ap, ◌∙◌, subst, inl, inr, arith}
+use Rattle.std.proofs.Common.{◌≡◌, ℕ, ◌+◌, ◌<◌, Bool, true, false, cond, ◌==◌, ◌&&◌, ◌||◌, List, [], ◌∷◌, ◌++◌, length, Some, None, refl, ap, ◌∙◌, inl, inr, arith}
 use Rattle.std.specs.List.{AllByRecursion as Each, list_any}
 use Rattle.std.proofs.lemmas.Bool.{both_ways, cond-false, eq-eqb, eqb-true, ne_eqb}
 use Rattle.mz_rules.proofs.Each.{each_of}
@@ -15,7 +15,7 @@ use Rattle.mz_books.specs.Sessions.{calls_made, outstanding, seen}
 use Rattle.mz_books.specs.Legal.{Legal, MayCall}
 use Rattle.mz_call_laws.proofs.Lists.{each_has, has_from}
 use Rattle.mz_call_laws.proofs.Accepted.{made_is}
-use Rattle.mz_call_laws.proofs.Front.{NoneOf, none_queued, others}
+use Rattle.mz_call_laws.proofs.Front.{none_queued, others}
 use Rattle.mz_call_laws.proofs.Numbers.{numbers_within}
 use Rattle.mz_frames.proofs.Appended.{long_one, made_one, seen_still, waiting_in, waits_still}
 

@@ -2,7 +2,7 @@
 use Rattle.std.proofs.Common.{◌≡◌, ℕ, Bool, true, false, cond, ◌==◌, ◌||◌, List, [], ◌∷◌, ◌++◌, drop, filter, find, length, map, not, Option, None, Some, is_none, is_some, refl, sym, ap, ◌∙◌, subst, inl, inr}
 use Rattle.std.specs.List.{AllByRecursion as Each, list_any}
 use Rattle.std.proofs.Math.Seq.{drop-append_seam}
-use Rattle.std.proofs.lemmas.Bool.{and_from, and_left, both_ways, cond_both, eq-eqb, eqb-true, false≢true, or_cases, or_right}
+use Rattle.std.proofs.lemmas.Bool.{and_from, and_left, eq-eqb, eqb-true, false≢true, or_cases, or_right}
 use Rattle.std.proofs.lemmas.List.{length-map}
 use Rattle.std.proofs.lemmas.List.Elements.{filter-append}
 use Rattle.mz_rules.proofs.Each.{each_all, each_both, each_of, each_right}
@@ -15,7 +15,7 @@ use Rattle.mz_books.specs.Clusters.{cluster_of}
 use Rattle.mz_books.specs.Entries.{Queued, is_reply_to}
 use Rattle.mz_books.specs.Rounds.{Round, open_round, queued, unreplied}
 use Rattle.mz_books.specs.States.{newest_state, replies_to, round_reply}
-use Rattle.mz_books.specs.Calls.{Call, calls, calls_of, is_waiting, replied_by, replied_in}
+use Rattle.mz_books.specs.Calls.{Call, calls, is_waiting, replied_by, replied_in}
 use Rattle.mz_books.specs.Sessions.{calls_made, outstanding}
 use Rattle.mz_books.specs.Legal.{Legal}
 use Rattle.mz_call_laws.specs.Members.{Has, Pairwise}

@@ -1,20 +1,19 @@
 -- The commands that wait are refused one after another, because no time is left.
-use Rattle.std.proofs.Common.{◌≡◌, ℕ, Bool, true, false, cond, ◌==◌, ◌&&◌, ◌||◌, List, [], ◌∷◌, ◌++◌, filter, length, map, not, None, is_none, refl, sym, ap, ◌∙◌, subst, inl, inr}
+use Rattle.std.proofs.Common.{◌≡◌, ℕ, true, false, cond, ◌==◌, ◌&&◌, List, [], ◌∷◌, ◌++◌, filter, length, map, not, None, Some, is_none, refl, sym, ap, ◌∙◌, subst, inl, inr}
 use Rattle.std.specs.List.{AllByRecursion as Each, list_any}
 use Rattle.std.proofs.lemmas.Bool.{and_from, and_left, and_parts, both_ways, cond-false, cond-true, cond_both, eq-eqb, eqb-true, ne_eqb, not_from_false}
 use Rattle.std.proofs.lemmas.List.{length-map}
 use Rattle.mz_rules.proofs.Each.{each_all, each_of}
-use Rattle.mz_statement.specs.declared.statement.Statement.{Statement}
 use Rattle.mz_print.specs.Print.{print_of}
-use Rattle.mz_refusal.specs.declared.refusal.Refusal.{Refusal}
 use Rattle.mz_refusal.specs.declared.refusal.Refusal.TheVariants.{TimeSpent}
 use Rattle.mz_log.specs.declared.entry.Entry.{Entry}
 use Rattle.mz_log.specs.declared.entry.Entry.TheVariants.{Refused}
 use Rattle.mz_log.specs.declared.reply.Reply.TheVariants as reply
 use Rattle.mz_log.specs.Log.{Log}
+use Rattle.mz_books.specs.Clusters.{cluster_of}
 use Rattle.mz_books.specs.Entries.{Queued, after}
 use Rattle.mz_books.specs.Rounds.{last_time, open_round, queued}
-use Rattle.mz_books.specs.Calls.{Call, calls, calls_of, ended, is_call, is_waiting, seen_in, with_reply}
+use Rattle.mz_books.specs.Calls.{Call, calls, calls_of, ended, is_call, is_waiting, new_call, seen_in, with_reply}
 use Rattle.mz_books.specs.Sessions.{calls_made, outstanding, seen}
 use Rattle.mz_books.specs.Holds.{rest}
 use Rattle.mz_books.specs.Owed.{IsInTurn, owed}
@@ -40,12 +39,19 @@ refused_as last m = Refused m.session m.call (print_of m.statement) (TimeSpent l
 abbrev refuse_call : ℕ → Queued → Call → Call
 refuse_call last m = ended m.session m.call (λ own. reply.Refused (TimeSpent last))
 
+-- the call that there would be, were the command none
+abbrev refused_call : ℕ → Queued → Log → Call
+refused_call last m log =
+    new_call m.session m.call (seen_in m.session (calls log)) (print_of m.statement) (Some (reply.Refused (TimeSpent last))) None
+    (cluster_of log m.session) None
+
 -- a command that waits is a call that gets its reply
 pub spent_calls : (log : Log) (last : ℕ) (m : Queued) → Has m (queued log)
     → calls (refused_as last m ∷ log) ≡ map (refuse_call last m) (calls log)
 spent_calls log last m h =
     let asked = queued_call log m h in
-    cond-true _ _ _ (any_has (is_call m.session m.call) asked.call (calls log) asked.there
+    cond-true (list_any (is_call m.session m.call) (calls log)) (map (refuse_call last m) (calls log)) (calls log ++ refused_call last m log ∷ [])
+    (any_has (is_call m.session m.call) asked.call (calls log) asked.there
     (and_from _ _ (eq-eqb asked.call.stored.session m.session asked.is.session) (eq-eqb asked.call.stored.call m.call asked.is.number)))
 
 -- a call that is the command, if it waits, has its reply

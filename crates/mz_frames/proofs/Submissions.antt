@@ -1,5 +1,5 @@
 -- What a command that is queued, and a read that is made, change of what sessions have.
-use Rattle.std.proofs.Common.{◌≡◌, ℕ, ◌+◌, ◌≤◌, cond, ◌==◌, ◌∷◌, length, Some, refl}
+use Rattle.std.proofs.Common.{◌≡◌, ℕ, ◌+◌, cond, ◌==◌, ◌∷◌, length, Some, refl}
 use Rattle.mz_statement.specs.declared.statement.Statement.{Statement}
 use Rattle.mz_log.specs.declared.entry.Entry.TheVariants.{Queue, Read}
 use Rattle.mz_log.specs.Log.{Log}

@@ -1,6 +1,6 @@
 -- What a turn changes: each pending peek gets its rows, and nothing else changes.
-use Rattle.std.proofs.Common.{◌≡◌, ℕ, ◌<◌, Bool, true, false, cond, ◌==◌, ◌&&◌, ◌||◌, not, List, [], ◌∷◌, filter, length, map, find, None, Some, is_none, Option, refl, sym, ap, ◌∙◌, subst, inl, inr, arith}
-use Rattle.std.specs.List.{AllByRecursion as Each, list_any}
+use Rattle.std.proofs.Common.{◌≡◌, ℕ, Bool, true, false, cond, ◌==◌, ◌&&◌, not, List, [], ◌∷◌, filter, length, map, None, Some, is_none, Option, refl, sym, ap, ◌∙◌, subst, inl, arith}
+use Rattle.std.specs.List.{list_any}
 use Rattle.std.specs.Option.{option_map_or}
 use Rattle.std.proofs.lemmas.Bool.{and_from, and_parts, both_ways, cond-false, cond_both, eq-eqb, eqb-true, ne_eqb, not_from_false}
 use Rattle.std.proofs.lemmas.List.{length-map}
@@ -13,7 +13,7 @@ use Rattle.mz_log.specs.declared.reply.Reply.TheVariants as reply
 use Rattle.mz_log.specs.Log.{Log}
 use Rattle.mz_books.specs.Entries.{after}
 use Rattle.mz_books.specs.Holds.{is_peek, pending}
-use Rattle.mz_books.specs.Calls.{Call, awaits, calls, finished, is_waiting, seen_in, with_reply}
+use Rattle.mz_books.specs.Calls.{Call, awaits, calls, finished, is_waiting, with_reply}
 use Rattle.mz_books.specs.Sessions.{calls_made, outstanding, seen}
 use Rattle.mz_books.specs.Owed.{peek_rows}
 use Rattle.mz_books.specs.Legal.{Legal}

@@ -12,7 +12,7 @@ ghost use Rattle.mz_books.specs.Legal.{Legal};
 ghost use Rattle.mz_books.specs.Owed.{owed};
 ghost use Rattle.mz_books.specs.Rounds.{Round, last_time, open_round, queued};
 ghost use Rattle.mz_books.specs.Sessions.{calls_made, outstanding, seen};
-ghost use Rattle.mz_books.specs.States.{newest_state, replies_to};
+ghost use Rattle.mz_books.specs.States.{after_replies, newest_state, replies_to};
 
 /// No time is left for a round, so each command that waits is refused: that is legal, no command
 /// waits then, and their sessions wait for none; nothing else changes. Takes no memory.
@@ -39,7 +39,7 @@ pub fn the_queue_is_refused()
 {}
 
 /// The open round is applied: at its own time, with the replies of the sequential object to its
-/// commands; those that wait behind them wait still. The sessions of its commands wait for none, and
+/// commands, which lead the newest state on; those that wait behind them wait still. The sessions of its commands wait for none, and
 /// have seen its time. No call is made. Takes no memory.
 pub fn a_round_is_applied()
     ensures replies { (log : Log) (time : ℕ) (replies : List Replied) (round : Round)
@@ -47,6 +47,10 @@ pub fn a_round_is_applied()
         → replies ≡ replies_to (cluster_of log) (newest_state log) round.commands }
     ensures time { (log : Log) (time : ℕ) (replies : List Replied) (round : Round)
         → Legal (Apply time replies ∷ log) → open_round log ≡ Some round → time ≡ round.time }
+    ensures state { (log : Log) (time : ℕ) (replies : List Replied)
+        → Legal (Apply time replies ∷ log)
+        → newest_state (Apply time replies ∷ log)
+        ≡ after_replies (cluster_of log) (newest_state log) replies }
     ensures queued { (log : Log) (time : ℕ) (replies : List Replied) (round : Round)
         → Legal (Apply time replies ∷ log) → open_round log ≡ Some round
         → queued (Apply time replies ∷ log) ≡ drop (length round.commands) (queued log) }

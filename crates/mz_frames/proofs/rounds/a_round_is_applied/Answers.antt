@@ -1,4 +1,5 @@
 -- Each clause is a lemma.
+use Rattle.mz_replay_laws.proofs.Steady.{newest_after}
 use Rattle.mz_frames.proofs.RoundEnds.{round_front, round_long, round_made, round_queue, round_replies, round_time, round_waits, round_waits_of}
 use Rattle.mz_frames.proofs.RoundSeen.{round_seen}
 use Rattle.mz_frames.proofs.rounds.a_round_is_applied.Goals as goal
@@ -8,6 +9,9 @@ returns-clause-replies c = round_replies
 
 pub returns-clause-time : goal.returns-clause-time
 returns-clause-time c = round_time
+
+pub returns-clause-state : goal.returns-clause-state
+returns-clause-state c = newest_after
 
 pub returns-clause-queued : goal.returns-clause-queued
 returns-clause-queued c = round_queue
