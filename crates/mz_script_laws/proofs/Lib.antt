@@ -18,3 +18,4 @@ pub mod PlainLines
 pub mod PlainSays
 pub mod BuiltLines
 pub mod HonestLines
+pub mod OtherLines

@@ -9,7 +9,6 @@ use Rattle.mz_rules.proofs.Each.{each_all, each_map}
 use Rattle.mz_log.specs.declared.entry.Entry.{Entry}
 use Rattle.mz_log.specs.declared.entry.Entry.TheVariants.{Begin, Apply, Finish, Refused, Instant, Close, Fed, Absorbed}
 use Rattle.mz_log.specs.Log.{Log}
-use Rattle.mz_books.specs.Answer.{answer}
 use Rattle.mz_books.specs.Clusters.{cluster_of}
 use Rattle.mz_books.specs.Entries.{after}
 use Rattle.mz_books.specs.Given.{Begun, BeginRefusal, Given, NoTime, begin_given, finish_given, gives, next_time, spent}
@@ -18,7 +17,7 @@ use Rattle.mz_books.specs.Owed.{answers_of, called_for, event, is_answered, peek
 use Rattle.mz_books.specs.Rounds.{Round, greatest_round_time, last_time, open_round, queued, rounds}
 use Rattle.mz_books.specs.States.{newest_state, replies_to}
 use Rattle.mz_script.specs.LineEvents.{commits_if_queued}
-use Rattle.mz_script.specs.Script.{answered, begins, commits, finishes, finishes_if_open}
+use Rattle.mz_script.specs.Script.{begins, commits, finishes, finishes_if_open}
 use Rattle.mz_script.specs.ScriptLine.{Machine, and_then, only_says}
 use Rattle.mz_script_laws.specs.Plain.{IsPlain, IsPlainLog}
 use Rattle.mz_script_laws.specs.Turns.{IsTurn}

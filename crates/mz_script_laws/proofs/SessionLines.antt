@@ -77,7 +77,7 @@ opened_rests machine name text asked false false is also asks rest =
 -- ---- either
 
 -- a place at which a test passes is one of the list
-place_within : (test : List ℕ → Bool) (names : List (List ℕ)) (place : ℕ) → position test names ≡ Some place → place < length names
+pub place_within : (test : List ℕ → Bool) (names : List (List ℕ)) (place : ℕ) → position test names ≡ Some place → place < length names
 place_within test names place e = elim (cases_Bool (nat_lt (position_or_len test names) (length names))) [
   | inl h ↦
       let is : Some (position_or_len test names) ≡ Some place = sym (cond-true _ _ _ h) ∙ e in

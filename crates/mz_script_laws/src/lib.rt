@@ -10,8 +10,8 @@ mod turns;
 
 pub use plain::{plain_answers_are_simple, plain_logs_are_simple, plain_logs_grow};
 pub use rest::{
-    calls_keep_machines_at_rest, rounds_keep_machines_at_rest, settling_keeps_machines_at_rest,
-    the_opening_is_at_rest,
+    calls_keep_machines_at_rest, other_lines_keep_machines_at_rest, rounds_keep_machines_at_rest,
+    settling_keeps_machines_at_rest, the_opening_is_at_rest,
 };
 pub use scripts::{
     each_script_leaves_a_good_log, lines_keep_machines_at_rest, scripts_leave_good_logs,

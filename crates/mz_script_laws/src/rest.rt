@@ -1,10 +1,11 @@
 //! Machines at rest stay so.
 ghost use Rattle.std.specs.Prelude.{ℕ, List};
+ghost use Rattle.mz_books.specs.GivenReplicas.{add_cluster_given};
 ghost use Rattle.mz_grammar.specs.Asked.{IsAsked};
 ghost use Rattle.mz_grammar.specs.declared.asked.Asked.{Asked};
-ghost use Rattle.mz_script.specs.LineEvents.{settles, turns_all};
-ghost use Rattle.mz_script.specs.Script.{begins, commits, finishes, finishes_if_open, session_place, session_says};
-ghost use Rattle.mz_script.specs.LineEvents.{commits_if_queued};
+ghost use Rattle.mz_script.specs.LineEvents.{commits_if_queued, settles, turns_all};
+ghost use Rattle.mz_script.specs.Machine.{added};
+ghost use Rattle.mz_script.specs.Script.{begins, cancels, closes, commits, finishes, finishes_if_open, free_hold, gives_back, moves_hold, session_place, session_says};
 ghost use Rattle.mz_script.specs.ScriptLine.{Machine, opening_machine};
 ghost use Rattle.mz_script_laws.specs.Rest.{IsAtRest};
 
@@ -37,4 +38,20 @@ pub fn rounds_keep_machines_at_rest()
 pub fn settling_keeps_machines_at_rest()
     ensures turns { (machine : Machine) → IsAtRest machine → IsAtRest (turns_all machine).machine }
     ensures settles { (machine : Machine) → IsAtRest machine → IsAtRest (settles machine).machine }
+{}
+
+/// A machine stays at rest as calls are cancelled, sessions closed and clusters added, and as live holds
+/// that no BEGIN took are moved on or given back. Takes no memory.
+pub fn other_lines_keep_machines_at_rest()
+    ensures cancels { (machine : Machine) (name : List ℕ) → IsAtRest machine
+        → IsAtRest (cancels machine name (session_place machine.log name)).machine }
+    ensures closes { (machine : Machine) (name : List ℕ) → IsAtRest machine
+        → IsAtRest (closes machine name (session_place machine.log name)).machine }
+    ensures clusters { (machine : Machine) (name : List ℕ) → IsAtRest machine
+        → IsAtRest (added machine name (add_cluster_given machine.log name)
+        (add_cluster_given machine.log name).answer).machine }
+    ensures moves { (machine : Machine) (hold time : ℕ) → IsAtRest machine
+        → IsAtRest (moves_hold machine hold time (free_hold machine.log hold)).machine }
+    ensures gives_back { (machine : Machine) (hold : ℕ) → IsAtRest machine
+        → IsAtRest (gives_back machine hold (free_hold machine.log hold)).machine }
 {}
