@@ -1,29 +1,24 @@
 -- The packet of a replica that took its feed may be absorbed, and finishes all pending peeks.
 use Rattle.std.specs.Prelude.{bytes_eq}
-use Rattle.std.proofs.Common.{◌≡◌, ℕ, ◌+◌, ◌==◌, ◌&&◌, true, false, not, List, [], ◌∷◌, length, map, filter, refl, sym, ap, ◌∙◌, inl, inr, arith}
-use Rattle.std.specs.List.{AllByRecursion as Each, list_any}
+use Rattle.std.proofs.Common.{◌≡◌, ℕ, ◌+◌, ◌==◌, ◌&&◌, true, [], length, map, filter, refl, sym, ap, ◌∙◌, arith}
+use Rattle.std.specs.List.{list_any}
 use Rattle.std.proofs.Math.Seq.{take-length}
-use Rattle.std.proofs.lemmas.Bool.{and_from, eq-eqb, eqb-true, false≢true, not-true, or_cases, or_left}
+use Rattle.std.proofs.lemmas.Bool.{and_from, eq-eqb, or_left}
 use Rattle.std.proofs.lemmas.Slice.Eq.{bytes_eq-Decides}
-use Rattle.mz_bag.specs.Weighted.{Weighted}
-use Rattle.mz_plan.specs.declared.command.PendingPeek.{PendingPeek}
 use Rattle.mz_log.specs.declared.entry.Entry.{Entry}
-use Rattle.mz_log.specs.declared.entry.Entry.TheVariants.{Finish, Fed, Absorbed}
+use Rattle.mz_log.specs.declared.entry.Entry.TheVariants.{Finish, Absorbed}
 use Rattle.mz_log.specs.Log.{Log}
-use Rattle.mz_books.specs.Entries.{after}
 use Rattle.mz_books.specs.Feeds.{feeds, is_feed, packet_frontiers}
-use Rattle.mz_books.specs.Holds.{is_peek, pending}
+use Rattle.mz_books.specs.Holds.{pending}
 use Rattle.mz_books.specs.Legal.{Legal, MayAbsorb}
 use Rattle.mz_books.specs.Owed.{answers_of, event, is_answered, owed, peek_rows}
 use Rattle.mz_books.specs.Since.{settled}
 use Rattle.mz_books.specs.Streams.{stream_of}
-use Rattle.mz_event_laws.proofs.Rising.{found_each}
+use Rattle.mz_frames.specs.Turns.{IsTurn}
 use Rattle.mz_event_laws.proofs.Whole.{IsWhole, event_whole}
-use Rattle.mz_safe_laws.proofs.Reached.{each_left}
 use Rattle.mz_stream_laws.proofs.Answered.{all_answered}
 use Rattle.mz_script.specs.ScriptLine.{LiveReplica}
 use Rattle.mz_script_laws.specs.Places.{IsPlaced}
-use Rattle.mz_script_laws.specs.Turns.{IsTurn}
 use Rattle.mz_script_laws.proofs.Feeding.{all_lines, fed_stream, front_legal, front_lines, front_of, front_owes, front_stream, is_alive, last_fed}
 use Rattle.mz_script_laws.proofs.FoundStreams.{grows_fed}
 
@@ -106,33 +101,3 @@ is_turn log replica p l none = record {
   finishes_all = ap (λ peeks. map (λ peek. Finish peek.peek (peek_rows log peek)) peeks) (all_finished log replica p l none);
   legal = (turn_whole log replica p l none).legal;
 }
-
--- ---- what is pending then
-
--- what holds of none is of nothing
-none_there : (ps : List PendingPeek) → Each (λ waiting. false ≡ true) ps → ps ≡ []
-none_there [] e = refl
-none_there (p ∷ ps) e = absurd (false≢true e.0)
-
--- once each pending peek is finished, none is pending
-none_left : (rows : PendingPeek → Weighted) (qs : List PendingPeek) (log : Log)
-    → Each (λ waiting. list_any (λ q. q.peek == waiting.peek) qs ≡ true) (pending log)
-    → pending (after (map (λ q. Finish q.peek (rows q)) qs) log) ≡ []
-none_left rows [] log p = none_there (pending log) p
-none_left rows (q ∷ qs) log p =
-    none_left rows qs (Finish q.peek (rows q) ∷ log)
-    (each_left (λ waiting. list_any (λ x. x.peek == waiting.peek) (q ∷ qs) ≡ true) (λ waiting. list_any (λ x. x.peek == waiting.peek) qs ≡ true)
-    (λ waiting. not (is_peek q.peek waiting))
-    (λ waiting passes here. elim (or_cases (q.peek == waiting.peek) (list_any (λ x. x.peek == waiting.peek) qs) here) [
-      | inl own ↦ absurd (false≢true (sym (not-true (is_peek q.peek waiting) passes)
-          ∙ eq-eqb waiting.peek q.peek (sym (eqb-true q.peek waiting.peek own))))
-      | inr later ↦ later
-    ]) (pending log) p)
-
--- after a turn no peek is pending
-pub none_pending : (log later : Log) → IsTurn log later → pending later ≡ []
-none_pending log later t =
-    let fed : Log = Fed t.replica t.incarnation t.fed t.to ∷ log in
-    let packet : Entry = Absorbed t.replica t.incarnation t.turn t.taken t.ready t.frontiers in
-    ap pending (t.is ∙ ap (λ es. after es (packet ∷ fed)) t.finishes_all)
-    ∙ none_left (peek_rows log) (pending log) (packet ∷ fed) (found_each (λ peek. peek.peek) (pending log))

@@ -4,15 +4,18 @@ use Rattle.std.proofs.Common.{◌≡◌, ℕ, ◌+◌, ◌≤◌, List, [], ◌�
 use Rattle.std.specs.List.{AllByRecursion as Each}
 use Rattle.std.specs.Option.{option_map_or}
 use Rattle.mz_plan.specs.declared.command.Command.TheVariants.{Peek}
+use Rattle.mz_print.specs.Print.{print_of}
+use Rattle.mz_refusal.specs.declared.refusal.Refusal.TheVariants.{TimeSpent}
 use Rattle.mz_rules.specs.Joining.{joining}
 use Rattle.mz_rules.specs.declared.capability.Hold.{Hold}
 use Rattle.mz_rules.proofs.Each.{each_all, each_map}
 use Rattle.mz_statement.specs.declared.statement.Statement.TheVariants.{Start, Commit}
 use Rattle.mz_log.specs.declared.entry.Entry.{Entry}
-use Rattle.mz_log.specs.declared.entry.Entry.TheVariants.{Apply, Read, Finish, Instant, Cancel, Close, Release, Fed, Absorbed, Join, Crash}
+use Rattle.mz_log.specs.declared.entry.Entry.TheVariants.{Apply, Read, Finish, Instant, Cancel, Close, Release, Refused, Fed, Absorbed, Join, Crash}
 use Rattle.mz_log.specs.declared.stream.Stream.{Stream}
 use Rattle.mz_log.specs.Log.{Log}
-use Rattle.mz_books.specs.Entries.{after}
+use Rattle.mz_books.specs.Entries.{Queued, after}
+use Rattle.mz_books.specs.Given.{spent}
 use Rattle.mz_books.specs.Collections.{collections}
 use Rattle.mz_books.specs.Holds.{Taking, holds, holds_taken, is_of_call, is_peek, pending, takings_of}
 use Rattle.mz_books.specs.Legal.{Legal}
@@ -131,3 +134,9 @@ called_calm log (Instant session call Commit time) = releases_calm session (hold
 called_calm log (Close session) = releases_calm session (holds log)
 called_calm log (Absorbed replica incarnation turn taken ready frontiers) = finishes_calm log _
 called_calm log entry = tt
+
+-- refusals for want of time are calm
+pub spent_calm : (last : ℕ) (commands : List Queued) → Each IsCalm (spent last commands)
+spent_calm last commands =
+    each_map (λ c. ⊤) IsCalm (λ c. Refused c.session c.call (print_of c.statement) (TimeSpent last)) (λ c p. tt) commands
+    (each_all (λ c. ⊤) (λ c. tt) commands)

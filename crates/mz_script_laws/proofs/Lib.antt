@@ -10,7 +10,6 @@ pub mod Answered
 pub mod Standing
 pub mod Turning
 pub mod Resting
-pub mod Spent
 pub mod RoundLines
 pub mod SessionLines
 pub mod Settling

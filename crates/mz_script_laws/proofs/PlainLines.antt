@@ -16,11 +16,11 @@ use Rattle.mz_books.specs.Holds.{pending}
 use Rattle.mz_books.specs.Owed.{answers_of, called_for, event, is_answered, peek_rows}
 use Rattle.mz_books.specs.Rounds.{Round, greatest_round_time, last_time, open_round, queued, rounds}
 use Rattle.mz_books.specs.States.{newest_state, replies_to}
+use Rattle.mz_frames.specs.Turns.{IsTurn}
 use Rattle.mz_script.specs.LineEvents.{commits_if_queued}
 use Rattle.mz_script.specs.Script.{begins, commits, finishes, finishes_if_open}
 use Rattle.mz_script.specs.ScriptLine.{Machine, and_then, only_says}
 use Rattle.mz_script_laws.specs.Plain.{IsPlain, IsPlainLog}
-use Rattle.mz_script_laws.specs.Turns.{IsTurn}
 use Rattle.mz_script_laws.proofs.PlainLogs.{plain_after}
 
 -- ---- events

@@ -9,12 +9,13 @@ use Rattle.mz_books.specs.Given.{Begun, BeginRefusal, Given, NoTime, begin_at, b
 use Rattle.mz_books.specs.Legal.{MayApply, MayBegin}
 use Rattle.mz_books.specs.Rounds.{Round, greatest_round_time, last_time, open_round, queued, rounds}
 use Rattle.mz_books.specs.States.{newest_state, replies_to}
+use Rattle.mz_frames.proofs.Spending.{all_spent_legal, all_spent_whole}
 use Rattle.mz_script.specs.LineEvents.{commits_if_queued}
 use Rattle.mz_script.specs.Script.{begins, commits, finishes, finishes_if_open}
 use Rattle.mz_script.specs.ScriptLine.{Machine, and_then, only_says, with_log}
 use Rattle.mz_script_laws.specs.Rest.{IsAtRest}
+use Rattle.mz_script_laws.proofs.Calm.{spent_calm}
 use Rattle.mz_script_laws.proofs.Resting.{rests_after, rests_event, rests_still}
-use Rattle.mz_script_laws.proofs.Spent.{spent_calm, spent_whole}
 
 -- ---- a round begins
 
@@ -41,7 +42,8 @@ begun_rests machine shut rest =
     cond_both (nat_le time greatest_round_time) given none (λ g. IsAtRest (with_log machine (after g.entries log)))
     (λ h. rests_event machine (Begin (rounds log + 1) time) tt (may_begin log machine.moment shut h) rest)
     (λ h. rests_after machine (spent (last_time log) (queued log))
-    (spent_whole (last_time log) (queued log) log rest.legal rest.whole shut refl refl) (spent_calm (last_time log) (queued log)) rest)
+    (record { legal = all_spent_legal log rest.legal rest.whole shut; none = all_spent_whole log rest.legal rest.whole shut })
+    (spent_calm (last_time log) (queued log)) rest)
 
 -- whether one is open or not
 begin_rests : (machine : Machine) (round : Option Round) → open_round machine.log ≡ round → IsAtRest machine

@@ -18,12 +18,13 @@ use Rattle.mz_call_laws.proofs.Lists.{each_has, found}
 use Rattle.mz_call_laws.proofs.PendingCalls.{pending_rises}
 use Rattle.mz_rules.proofs.Each.{each_all}
 use Rattle.mz_safe_laws.proofs.Reached.{each_left}
+use Rattle.mz_frames.proofs.Turning.{turn_pending}
 use Rattle.mz_script.specs.LineEvents.{fed_and_turned, sorted_names, turned, turns, turns_all, turns_one}
 use Rattle.mz_script.specs.Machine.{answer_text, answers_to, feed_at, moved_replica, replica_called}
 use Rattle.mz_script.specs.ScriptLine.{LiveReplica, Machine, NumberedFeed, and_then}
 use Rattle.mz_script_laws.specs.Places.{HasOneReplica, IsPlaced}
 use Rattle.mz_script_laws.specs.Turns.{Turned, all_told}
-use Rattle.mz_script_laws.proofs.Answered.{all_finished, is_turn, none_pending, turn_whole}
+use Rattle.mz_script_laws.proofs.Answered.{all_finished, is_turn, turn_whole, turned_log}
 use Rattle.mz_script_laws.proofs.AskedLines.{Rise, answers_rise}
 use Rattle.mz_script_laws.proofs.Feeding.{fed_stream, feeds_own, front_legal, front_lines, front_of, front_stream, last_fed}
 use Rattle.mz_script_laws.proofs.Merged.{merged}
@@ -103,7 +104,7 @@ turned_alone machine one l none =
     let turn = is_turn machine.log one.replica one.placed l none in record {
       turn = turn;
       whole = (turn_whole machine.log one.replica one.placed l none).none;
-      none_pending = none_pending machine.log _ turn;
+      none_pending = turn_pending machine.log (turned_log machine.log one.replica one.placed) turn;
       one = one_then machine one l none;
       moment = refl;
       lines = refl;

@@ -1,31 +1,13 @@
--- Turns: a replica is fed, and its packet answers each pending peek.
-use Rattle.std.specs.Prelude.{◌≡◌, ℕ, List, [], ◌∷◌, flat_map, map}
-use Rattle.mz_log.specs.declared.entry.Entry.TheVariants.{Finish, Fed, Absorbed}
+-- What a turn says and leaves, as the machine of a script makes it.
+use Rattle.std.specs.Prelude.{◌≡◌, ℕ, List, [], flat_map}
 use Rattle.mz_log.specs.Log.{Log}
 use Rattle.mz_books.specs.Holds.{pending}
-use Rattle.mz_books.specs.Legal.{Legal}
-use Rattle.mz_books.specs.Owed.{called_for, event, owed, peek_rows}
+use Rattle.mz_books.specs.Owed.{owed, peek_rows}
 use Rattle.mz_books.specs.Sessions.{session_name}
+pub use Rattle.mz_frames.specs.Turns.{IsTurn}
 use Rattle.mz_script.specs.EventTexts.{finished_text}
 use Rattle.mz_script.specs.ScriptLine.{Machine, Said}
 use Rattle.mz_script_laws.specs.Places.{HasOneReplica}
-
--- the later log is the log after a turn: a feed for some incarnation of a replica, and its packet, which finishes all pending peeks in
--- order, each with the rows that it waits for
-pub record IsTurn (log later : Log) : Type 0 where
-  pub replica : List ℕ
-  pub incarnation : ℕ
-  pub turn : ℕ
-  pub fed : ℕ
-  pub to : ℕ
-  pub taken : ℕ
-  pub ready : ℕ
-  pub frontiers : List (ℕ × ℕ)
-  pub is : later ≡ event (Fed replica incarnation fed to ∷ log) (Absorbed replica incarnation turn taken ready frontiers)
-  pub finishes_all :
-      called_for (Fed replica incarnation fed to ∷ log) (Absorbed replica incarnation turn taken ready frontiers)
-      ≡ map (λ peek. Finish peek.peek (peek_rows log peek)) (pending log)
-  pub legal : Legal later
 
 -- what is said of the pending peeks of a log, once each has its rows
 abbrev pub all_told : Log → List ℕ

@@ -1,6 +1,6 @@
 //! The laws of scripts: what the machine of a script keeps, whatever lines it reads.
 //! Promises each law on a function with an empty body, by the definitions of `mz_script` and a few words of its own (`specs/`).
-//! Stands on `mz_event_laws`, `mz_safe_laws`, `mz_call_laws`, `mz_laws` and the crates in whose words machines speak.
+//! Stands on `mz_event_laws`, `mz_stream_laws`, `mz_frames`, `mz_safe_laws`, `mz_call_laws`, `mz_laws` and the crates in whose words machines speak.
 #![tactic(auto)]
 
 mod plain;

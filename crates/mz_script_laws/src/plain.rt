@@ -8,12 +8,12 @@ ghost use Rattle.mz_books.specs.Owed.{event};
 ghost use Rattle.mz_books.specs.Rounds.{ddl, read_time};
 ghost use Rattle.mz_books.specs.Sessions.{calls_made, is_closed};
 ghost use Rattle.mz_books.specs.Situation.{situation};
+ghost use Rattle.mz_frames.specs.Turns.{IsTurn};
 ghost use Rattle.mz_grammar.specs.declared.asked.Asked.{Asked};
 ghost use Rattle.mz_log.specs.Log.{Log};
 ghost use Rattle.mz_log.specs.declared.entry.Entry.{Entry};
 ghost use Rattle.mz_log.specs.declared.entry.Entry.TheVariants.{Queue};
 ghost use Rattle.mz_script_laws.specs.Plain.{IsPlain, IsPlainAsked, IsPlainLog, plain_answer, plain_read};
-ghost use Rattle.mz_script_laws.specs.Turns.{IsTurn};
 ghost use Rattle.mz_statement.specs.declared.statement.Kind.TheVariants as kind;
 ghost use Rattle.mz_statement.specs.declared.statement.Statement.{Statement};
 

@@ -1,11 +1,9 @@
 //! Turns: the one replica of a machine is fed, and its packet answers each pending peek.
 ghost use Rattle.std.specs.Prelude.{◌≡◌, []};
-ghost use Rattle.mz_books.specs.Holds.{pending};
-ghost use Rattle.mz_log.specs.Log.{Log};
 ghost use Rattle.mz_script.specs.LineEvents.{turns_all};
 ghost use Rattle.mz_script.specs.ScriptLine.{Machine};
 ghost use Rattle.mz_script_laws.specs.Rest.{IsAtRest};
-ghost use Rattle.mz_script_laws.specs.Turns.{IsTurn, Turned};
+ghost use Rattle.mz_script_laws.specs.Turns.{Turned};
 
 /// A machine at rest makes a turn as its replicas do: its log is one turn longer, each pending peek is
 /// told its rows, in order, and nothing else changes but the place of its replica. Takes no memory.
@@ -15,7 +13,8 @@ pub fn turns_answer_all()
 {}
 
 /// After a turn no peek is pending, so a second one says nothing. Takes no memory.
+#[tactic(auto, using(crate::proofs::Settling::second_quiet))]
 pub fn second_turns_are_quiet()
-    ensures none_pending { (log later : Log) → IsTurn log later → pending later ≡ [] }
-    ensures quiet { (machine : Machine) → IsAtRest machine → (turns_all (turns_all machine).machine).text ≡ [] }
+    ensures { (machine : Machine) → IsAtRest machine
+        → (turns_all (turns_all machine).machine).text ≡ [] }
 {}
