@@ -1,0 +1,13 @@
+pub mod Past
+pub mod AtRead
+pub mod Taken
+pub mod Released
+pub mod HeldFor
+pub mod MadeByDdl
+pub mod InTransaction
+pub mod Emptied
+pub mod GivenGood
+pub mod GivenReplicas
+pub mod GivenFeeds
+pub mod Catalogued
+pub mod GivenHolds
