@@ -8,3 +8,5 @@ pub mod StreamsFit
 pub mod Answered
 pub mod Grows
 pub mod Later
+pub mod PeekNames
+pub mod TrueRows
