@@ -1,10 +1,11 @@
 -- Which lines the program carries out so far, and what it does where it doesn't.
-use Rattle.std.specs.Prelude.{ℕ, ◌+◌, ◌&&◌, List, [], ◌∷◌, Bool, true, false, Some, if◌then◌else◌}
+use Rattle.std.specs.Prelude.{ℕ, ◌+◌, ◌&&◌, List, [], ◌∷◌, Bool, true, false, Some, if◌then◌else◌, ⊤}
 use Rattle.mz_statement.specs.declared.statement.Kind.{Kind}
 use Rattle.mz_statement.specs.declared.statement.Kind.TheVariants as kind
 use Rattle.mz_statement.specs.declared.statement.Statement.{Statement}
 use Rattle.mz_statement.specs.declared.statement.Statement.TheVariants.{Query}
 use Rattle.mz_statement.specs.Kind.{kind_of}
+use Rattle.mz_grammar.specs.Asked.{IsAsked}
 use Rattle.mz_grammar.specs.declared.asked.Asked.{Asked}
 use Rattle.mz_grammar.specs.declared.asked.Asked.TheVariants as asks
 use Rattle.mz_script.specs.declared.script_line.ScriptLine.{ScriptLine}
@@ -40,6 +41,11 @@ is_built FinishRound = true
 is_built CommitRound = true
 is_built Settle = true
 is_built other = false
+
+-- what a session asks for is what its text asks for
+abbrev pub IsHeard : ScriptLine → Type 0
+IsHeard (Says name text asked) = IsAsked text asked
+IsHeard other = ⊤
 
 -- what the next line does, where it is built. Any other is counted, and nothing else is done
 abbrev pub after_built_line : Machine → ScriptLine → Said

@@ -54,7 +54,7 @@ has_leading_zero (digit ∷ next ∷ digits) = digit == 48
 -- these are the digits of a number: at least one and not too many, and no zero leads them
 abbrev pub are_digits : List ℕ → Bool
 are_digits word =
-    is_word word && (list_all is_ascii_digit word && (nat_le (length word) most_digits && not (has_leading_zero word)))
+    list_all is_ascii_digit word && nat_le 1 (length word) && nat_le (length word) most_digits && not (has_leading_zero word)
 
 -- the number that a word is, if it is one
 abbrev pub number_of : List ℕ → Option ℕ
