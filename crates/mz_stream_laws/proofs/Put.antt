@@ -1,5 +1,5 @@
 -- A collection that moves on stays what it is: its number, item, cluster and kind are those that it had.
-use Rattle.std.proofs.Common.{◌≡◌, ℕ, ◌+◌, ◌==◌, true, false, max, List, refl, sym, ◌∙◌}
+use Rattle.std.proofs.Common.{◌≡◌, ℕ, ◌+◌, ◌==◌, true, max, List, refl, sym, ◌∙◌}
 use Rattle.std.proofs.lemmas.Bool.{cond_both, false≢true}
 use Rattle.mz_time.specs.declared.frontier.Frontier.{Frontier}
 use Rattle.mz_time.specs.declared.frontier.Frontier.TheVariants.{At, Done}
