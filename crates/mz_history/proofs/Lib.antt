@@ -1,0 +1,9 @@
+mod Counts
+mod Found
+mod Lefts
+mod Lists
+mod Live
+mod Marks
+mod Naming
+mod OneStream
+mod Pushing
