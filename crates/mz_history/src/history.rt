@@ -1,5 +1,5 @@
 //! The history of what replicas are told.
-ghost use Rattle.std.specs.Prelude.{◌≡◌, ◌+◌, ◌<◌, ◌≤◌, ◌^◌, ◌++◌, ◌∷◌, [], ℕ, IfOk, None, OnErr, OnOk, drop, is_some, length, take};
+ghost use Rattle.std.specs.Prelude.{◌≡◌, ◌+◌, ◌<◌, ◌≤◌, ◌^◌, ◌++◌, ◌∷◌, [], ℕ, IfOk, None, OnErr, OnOk, drop, false, is_some, length, take};
 ghost use Rattle.mz_history.specs.Kept.{begun, markeds, presents};
 ghost use Rattle.mz_rules.specs.Streams.{told_where_named};
 ghost use Rattle.mz_history.specs.StreamBook.{kept_of, lines_of, no_streams, once_more, stream_of, times_of, told_all, told_one, trimmed, with_joining, without_stream};
@@ -189,7 +189,8 @@ impl History {
 
     /// Whether a replica is live. Takes no memory. O(r), for r live ones.
     pub fn is_live(&self, replica: &Name) -> bool
-        ensures { result ≡ is_some (stream_of replica.now self.now.present.live) }
+        ensures live { result ≡ is_some (stream_of replica.now self.now.present.live) }
+        ensures lost { result ≡ false → stream_of replica.now self.now.present.live ≡ None }
     {
         streams::is_live(&self.streams, replica)
     }
