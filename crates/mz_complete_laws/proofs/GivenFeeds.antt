@@ -28,7 +28,7 @@ use Rattle.mz_event_laws.proofs.GoodLogs.{event_good}
 use Rattle.mz_event_laws.proofs.HoldsRise.{holds_rise}
 use Rattle.mz_event_laws.proofs.Rising.{found_each, only_each}
 use Rattle.mz_safe_laws.proofs.Incarnations.{own_found}
-use Rattle.mz_stream_laws.proofs.StreamsFit.{streams_fit}
+use Rattle.mz_safe_laws.proofs.Honest.{faithful}
 use Rattle.mz_complete_laws.proofs.GivenGood.{IsEvent, step_good}
 
 -- ---- feeds
@@ -48,7 +48,7 @@ holds_then false e = absurd (cc)
 own_stream : (log : Log) → Good log → (s : Stream) → Has s (streams log) → find (is_stream s.replica s.incarnation) (streams log) ≡ Some s
 own_stream log good s there =
     each_has (λ x. is_stream s.replica s.incarnation x ≡ true → find (is_stream s.replica s.incarnation) (streams log) ≡ Some x) s (streams log)
-    (own_found s.replica s.incarnation (streams log) (streams_fit log good.legal).known.alone) there
+    (own_found s.replica s.incarnation (streams log) (faithful log good.legal).known.alone) there
     (and_from (bytes_eq s.replica s.replica) (s.incarnation == s.incarnation) ((bytes_eq-Decides s.replica s.replica).1 refl)
     (eq-eqb s.incarnation s.incarnation refl))
 

@@ -57,7 +57,7 @@ faithful_opening = record {
 }
 
 -- so each legal log has faithful streams
-faithful : (log : Log) → Legal log → IsFaithful log
+pub faithful : (log : Log) → Legal log → IsFaithful log
 faithful [] l = faithful_opening
 faithful (entry ∷ log) l = faithful_then log entry l (faithful log l.0)
 

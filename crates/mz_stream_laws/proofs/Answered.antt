@@ -28,7 +28,7 @@ use Rattle.mz_safe_laws.proofs.Reached.{Agrees, not_retired}
 use Rattle.mz_stream_laws.specs.Taken.{HasTakenAll}
 use Rattle.mz_stream_laws.proofs.Asked.{all_asked, peeks_placed}
 use Rattle.mz_stream_laws.proofs.PeekPlaces.{peeks_kept}
-use Rattle.mz_stream_laws.proofs.StreamsFit.{streams_fit}
+use Rattle.mz_safe_laws.proofs.Honest.{faithful}
 
 -- ---- one peek
 
@@ -111,7 +111,7 @@ live_answers : (log : Log) → Legal log → (replica : List ℕ) (incarnation t
 live_answers log l replica incarnation taken ready has =
     let own = has.own in
     let there = (found (is_stream replica incarnation) (streams log) own has.is_own).1 in
-    let bundle = each_has (Bundle (peeks_made log) (pending log) (feeds log) (owed log)) own (streams log) (streams_fit log l).bundles there in
+    let bundle = each_has (Bundle (peeks_made log) (pending log) (feeds log) (owed log)) own (streams log) (faithful log l).bundles there in
     let asks = each_has (λ s. s.live ≡ true
     → Each (λ peek. is_kept_in s.cluster (collections log) peek.collection ≡ true → asks_for peek.peek s.commands ≡ true) (pending log))
     own (streams log) (all_asked log l) there has.live in

@@ -4,7 +4,6 @@ pub mod Asked
 pub mod RoundKeeps
 pub mod IndexPlaces
 pub mod PeekPlaces
-pub mod StreamsFit
 pub mod Answered
 pub mod Grows
 pub mod Later

@@ -31,7 +31,7 @@ use Rattle.mz_call_laws.proofs.PendingCalls.{pending_rises, pending_within}
 use Rattle.mz_safe_laws.proofs.Bundles.{Bundle}
 use Rattle.mz_safe_laws.proofs.PeekLines.{are_apart}
 use Rattle.mz_safe_laws.proofs.Reached.{IsNumbered}
-use Rattle.mz_stream_laws.proofs.StreamsFit.{streams_fit}
+use Rattle.mz_safe_laws.proofs.Honest.{faithful}
 
 -- a line that asks for the peek names its collection
 abbrev pub Names : PendingPeek → Command → Type 0
@@ -139,7 +139,7 @@ more_names log l waiting next p =
     (λ s. NameAll (pending log ++ waiting ∷ []) s.commands)
     (λ s q b. each_one (λ w. Each (Names w) s.commands) (pending log) waiting q
     (each_of (IsNumbered (peeks_made log)) (Names waiting) (earlier_names (peeks_made log) waiting (omega (arith, next))) s.commands b.fits.numbered))
-    (streams log) p (streams_fit log l).bundles
+    (streams log) p (faithful log l).bundles
 
 -- so each line of a legal log's streams that asks for a pending peek names its collection
 pub all_named : (log : Log) → Legal log → Each (λ s. NameAll (pending log) s.commands) (streams log)

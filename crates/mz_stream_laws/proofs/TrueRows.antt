@@ -40,7 +40,7 @@ use Rattle.mz_safe_laws.proofs.Sound.{sound}
 use Rattle.mz_stream_laws.proofs.Asked.{peeks_placed}
 use Rattle.mz_stream_laws.proofs.Later.{earlier, may_absorb, same_answers}
 use Rattle.mz_stream_laws.proofs.PeekNames.{NameAll, Names, all_named}
-use Rattle.mz_stream_laws.proofs.StreamsFit.{streams_fit}
+use Rattle.mz_safe_laws.proofs.Honest.{faithful}
 
 -- ---- rows that stay
 
@@ -114,7 +114,7 @@ line_has front later l s own (Retire peek) there = tt
 line_has front later l s own (Peek peek collection t) there =
     let longer : Log = later ++ front in
     let legal = earlier front later l in
-    let bundle = each_has (Bundle (peeks_made front) (pending front) (feeds front) (owed front)) s (streams front) (streams_fit front legal).bundles own in
+    let bundle = each_has (Bundle (peeks_made front) (pending front) (feeds front) (owed front)) s (streams front) (faithful front legal).bundles own in
     let low : peek ≤ peeks_made front = each_has (IsNumbered (peeks_made front)) (Peek peek collection t) s.commands bundle.fits.numbered there in
     let named = each_has (λ x. NameAll (pending front) x.commands) s (streams front) (all_named front legal) own in
     each_from (λ w. w.peek ≡ peek → entries (contents_at front collection t) ≡ peek_rows longer w) (pending longer)
