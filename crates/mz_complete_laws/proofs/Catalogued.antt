@@ -31,7 +31,7 @@ use Rattle.mz_replay_laws.proofs.Said.{round_said}
 use Rattle.mz_replay_laws.proofs.Steady.{newest_after}
 use Rattle.mz_replay_laws.proofs.WellStates.{states_well}
 use Rattle.mz_safe_laws.proofs.Reached.{each_left}
-use Rattle.mz_stream_laws.proofs.RoundKeeps.{IsKeptBy, round_keeps}
+use Rattle.mz_replay_laws.proofs.RoundKeeps.{IsKeptBy, round_keeps}
 
 -- the collection is in the catalog, and that of the item, with its name
 abbrev pub is_of : Item → Collection → Bool

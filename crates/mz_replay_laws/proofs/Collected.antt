@@ -14,7 +14,8 @@ use Rattle.mz_books.specs.Collections.{advanced, collections, reported, retained
 use Rattle.mz_log.specs.Sequential.{Change, Made, Removed, Moved, Sequential}
 use Rattle.mz_books.specs.States.{after_replies, newest_state, round_changes}
 use Rattle.mz_books.specs.Legal.{Legal}
-use Rattle.mz_replay_laws.proofs.RoundChanges.{replies_fit}
+use Rattle.mz_replay_laws.proofs.Changes.{change_fits}
+use Rattle.mz_replay_laws.proofs.RoundKeeps.{round_keeps}
 use Rattle.mz_replay_laws.proofs.Found.{moved_advanced, moved_reported, moved_retained, moved_without, plan_in, plan_more, plan_moved}
 use Rattle.mz_replay_laws.proofs.IndexPlans.{Fits, fits_more, fits_moved}
 use Rattle.mz_replay_laws.proofs.Said.{round_said}
@@ -41,7 +42,8 @@ collections_fit (Apply time replies ∷ log) l =
     subst (λ state. Fits state (collections (Apply time replies ∷ log))) (sym (newest_after log time replies l))
     (fits_moved (after_replies (cluster_of log) (newest_state log) replies) (advanced time) (moved_advanced time)
     (with_changes time (collections log) (round_changes log replies))
-    (replies_fit (cluster_of log) time (newest_state log) (collections log) replies (round_said log time replies l)
+    (round_keeps time Fits (λ state used change next cs fits. change_fits state used change next time cs fits) (cluster_of log)
+    (newest_state log) (collections log) replies (round_said log time replies l)
     (states_well log l.0 _) (collections_fit log l.0)))
 collections_fit (Read session call peek time statement collection ∷ log) l =
     read_fits (newest_state log) collection peek _ _ time (collections log) (collections_fit log l.0)

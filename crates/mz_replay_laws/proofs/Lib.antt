@@ -9,7 +9,7 @@ pub mod QueryPlans
 pub mod Found
 pub mod IndexPlans
 pub mod Changes
-pub mod RoundChanges
+pub mod RoundKeeps
 pub mod Collected
 pub mod Served
 pub mod SaidCalls

@@ -22,7 +22,7 @@ use Rattle.mz_replay_laws.proofs.Said.{round_said}
 use Rattle.mz_replay_laws.proofs.Steady.{newest_after}
 use Rattle.mz_replay_laws.proofs.WellStates.{states_well}
 use Rattle.mz_stream_laws.proofs.Put.{IsPut, put_advanced, put_reported, put_retained, put_without}
-use Rattle.mz_stream_laws.proofs.RoundKeeps.{IsKeptBy, round_keeps}
+use Rattle.mz_replay_laws.proofs.RoundKeeps.{IsKeptBy, round_keeps}
 
 -- the number of the collection's item was used, and where an index has it, its cluster makes the collection
 pub record IsMadeForIndex (state : Sequential) (c : Collection) : Type 0 where

@@ -1,7 +1,6 @@
 pub mod Put
 pub mod Kept
 pub mod Asked
-pub mod RoundKeeps
 pub mod IndexPlaces
 pub mod PeekPlaces
 pub mod Answered
