@@ -58,6 +58,14 @@ impl Oracle {
         self.read
     }
 
+    /// The last time that was given, or 0.
+    pub fn last(&self) -> Time
+        ensures value { result ≡ self.now.last }
+        ensures oracle { IsOracle self.now }
+    {
+        self.last
+    }
+
     /// The next time, where the clock stands at `now`: what the clock says, or one more than the last time that was given
     /// where it isn't past that. What may be read stays as it is.
     pub fn give(&mut self, now: u64) -> Result<Time, TimeSpent>
