@@ -1,5 +1,6 @@
 pub mod BagLemmas
 pub mod CommandLemmas
+pub mod CopiedLemmas
 pub mod DatabaseLemmas
 pub mod DoneLemmas
 pub mod FoundLemmas

@@ -1,5 +1,5 @@
 //! Rows with their counts, as a table stores them: a row of the mark that is gone keeps its place with the count 0.
-ghost use Rattle.std.specs.Prelude.{◌≡◌, ◌+ℤ◌, pos, false, true, is_some, List, Option, IfOk, OnOk, OnErr, if◌then◌else◌};
+ghost use Rattle.std.specs.Prelude.{◌≡◌, ◌≤◌, ◌+ℤ◌, pos, false, true, is_some, List, Option, IfOk, OnOk, OnErr, if◌then◌else◌};
 ghost use Rattle.std.specs.FinMap.{get};
 ghost use Rattle.std.specs.List.{IsDistinct};
 ghost use Rattle.std.specs.Ordering.{int_eq};
@@ -8,7 +8,9 @@ ghost use Rattle.mz_value.specs.declared.datum.Datum.{Datum};
 ghost use Rattle.mz_value.specs.Row.{row_eq};
 ghost use Rattle.mz_bag.specs.Bag.{count_in, map_of, Fits};
 ghost use Rattle.mz_bag.specs.Weighted.{bag_of, each_once, negated, sum_of};
-ghost use Rattle.mz_seq.specs.Stored.{count_at, has_row, AreUsed, Covers, IsUsed};
+ghost use Rattle.mz_plan.specs.Small.{most_rows};
+ghost use Rattle.mz_log.specs.CarriedOut.{rows_in};
+ghost use Rattle.mz_seq.specs.Stored.{count_at, has_row, rows_now, AreUsed, Covers, IsUsed};
 
 use indexmap::IndexMap;
 use mz_bag::Bag;
@@ -179,4 +181,18 @@ pub fn put(
     let result = put_all(counts, changes, change);
     sweep(counts, change.counts(), changes);
     result
+}
+
+/// A copy of the rows that are there. O(n) expected, where n rows are stored.
+pub fn copied_rows(counts: &IndexMap<Row, i128>) -> Result<Bag, AllocError>
+    requires { rows_in (rows_now counts.now.entries) ≤ most_rows }
+    ensures { IfOk result (λ bag. bag ≡ rows_now counts.now.entries) }
+{
+    let alloc = *counts.allocator();
+    let _rows = counts.len();
+    let mut bag = Bag::empty(alloc);
+    'rows: for (row, count) in counts.iter() {
+        bag.add(row.try_copy(alloc)?, *count)?;
+    }
+    Ok(bag)
 }

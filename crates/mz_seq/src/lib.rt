@@ -3,6 +3,7 @@
 //! Stands on `mz_catalog` for items, on `mz_bag` for changes, and on `mz_log` for what it is held to.
 #![tactic(auto)]
 
+mod bags;
 mod change;
 mod commands;
 mod counts;

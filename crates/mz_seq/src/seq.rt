@@ -17,8 +17,10 @@ ghost use Rattle.mz_seq.specs.Tables.{bags_had, bags_now, bags_then, catalog_of,
 ghost use Rattle.mz_seq.specs.Told.{ComesTo};
 
 use crate::TableRows;
+use crate::bags::copied_bags;
 use crate::marked_catalog::MarkedCatalog;
 use crate::tables::{Table, back, delete_from, insert_into, mark, push, take_away};
+use mz_bag::Bag;
 use mz_catalog::Catalog;
 use mz_log::SeqReply;
 use mz_plan::{Cond, Item, ItemKind, Plan, Resolved};
@@ -368,6 +370,13 @@ impl Seq {
             ≡ changes_between self.now.marked.bags self.now.present.bags }
     {
         &self.tables
+    }
+
+    /// A copy of the rows of each table, in order of creation. O(n) expected, and O(tables), where n rows are stored.
+    pub fn bags(&self) -> Result<Vec<(u64, Bag)>, AllocError>
+        ensures { IfOk result (λ bags. bags.items ≡ self.now.present.bags) }
+    {
+        copied_bags(*self.tables.allocator(), &self.tables)
     }
 
     /// Gives the round up: all is as it was when it was started, the next number too. Takes no memory. O(1) for each table,

@@ -11,7 +11,7 @@ ghost use Rattle.mz_log.specs.CarriedOut.{meets, rows_in};
 ghost use Rattle.mz_seq.specs.Stored.{count_at};
 
 use crate::change::{bag_of_rows, rows_met};
-use crate::counts::{add_each, put, sweep};
+use crate::counts::{add_each, copied_rows, put, sweep};
 use indexmap::IndexMap;
 use mz_bag::Bag;
 use mz_plan::Cond;
@@ -73,6 +73,13 @@ impl TableRows {
         ensures few { rows_in self.now.present ≤ most_rows }
     {
         self.rows
+    }
+
+    /// A copy of the rows. O(n) expected, where n rows are stored.
+    pub fn bag(&self) -> Result<Bag, AllocError>
+        ensures { IfOk result (λ bag. bag ≡ self.now.present) }
+    {
+        copied_rows(&self.counts)
     }
 
     /// What came since the mark. Takes no memory. O(1).

@@ -10,7 +10,8 @@ use std::alloc::{AllocError, Global};
 use std::process::Abort;
 use std::test::Fail;
 
-fn row(alloc: Global, k: i32, v: i32) -> Result<Row, AllocError> {
+/// A row of two numbers.
+pub fn row(alloc: Global, k: i32, v: i32) -> Result<Row, AllocError> {
     Ok(Row::from_vec(vec![in alloc; Datum::Int(k), Datum::Int(v)]?))
 }
 

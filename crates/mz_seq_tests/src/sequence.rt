@@ -3,14 +3,14 @@ ghost use Rattle.std.specs.Prelude.{◌≡◌, IfOk};
 ghost use Rattle.mz_seq.specs.Asked.{IsAsked};
 ghost use Rattle.mz_seq.specs.Done.{is_query};
 
-use crate::parts::text;
+use crate::parts::{row, text};
 use mz_plan::Resolved;
 use mz_refusal::CallFault;
 use mz_resolve::resolve;
 use mz_seq::Seq;
 use mz_sql::parse;
 use mz_statement::Statement;
-use mz_value::Text;
+use mz_value::{Row, Text};
 use std::alloc::{AllocError, Global};
 use std::process::Abort;
 use std::test::Fail;
@@ -125,5 +125,39 @@ fn drop_both(rt: &impl Abort, alloc: Global, seq: &mut Seq) -> Result<(), AllocE
 fn a_drop_is_refused_and_done(rt: HostRuntime) -> Result<(), Fail> {
     let mut seq = Seq::fresh(rt.alloc())?;
     drop_both(&rt, rt.alloc(), &mut seq)?;
+    Ok(())
+}
+
+// Of each table its number, how often it has a row, and how many different rows it has.
+fn copied(alloc: Global, seq: &Seq, row: &Row) -> Result<String, AllocError> {
+    let mut text = String::new(alloc);
+    for (number, bag) in seq.bags()? {
+        let count = bag.get(row);
+        let rows = bag.len();
+        write!(text, "{number}: {count} of {rows}; ")?;
+    }
+    Ok(text)
+}
+
+// A row comes and goes, another comes twice, and a second table stays empty.
+fn copy(rt: &impl Abort, alloc: Global, seq: &mut Seq) -> Result<(), AllocError> {
+    let lines = [
+        (
+            "INSERT INTO kv VALUES (1, 2), (3, 4), (1, 2), (5, 6)",
+            "inserted 4",
+        ),
+        ("DELETE FROM kv WHERE k = 3", "deleted 1"),
+        ("CREATE TABLE t (a INT)", "created 2"),
+    ];
+    says(rt, alloc, seq, &lines)?;
+    let text = copied(alloc, seq, &row(alloc, 1, 2)?)?;
+    assert_eq!(rt; text.as_str(), "1: 2 of 2; 2: 0 of 0; ");
+    Ok(())
+}
+
+#[test]
+fn the_rows_of_tables_are_copied(rt: HostRuntime) -> Result<(), Fail> {
+    let mut seq = Seq::fresh(rt.alloc())?;
+    copy(&rt, rt.alloc(), &mut seq)?;
     Ok(())
 }
