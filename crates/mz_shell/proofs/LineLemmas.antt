@@ -1,10 +1,9 @@
--- Bytes that are cut at separators, or put together.
+-- Bytes that are cut at LF.
 use Rattle.std.proofs.Common.{◌≡◌, ℕ, ◌+◌, ◌-◌, ◌<◌, ◌≤◌, Bool, true, false, not, eqb, cond, List, [], ◌∷◌, ◌++◌, length, take, drop, get_or, refl, ap, subst, ◌∙◌, arith, None, Some, ltb, one-add, add-one}
 use Rattle.std.specs.List.{position, position_or_len}
 use Rattle.std.proofs.lemmas.List.{take_all, length-drop, length-take, length-take-le, length-append, take_more}
 use Rattle.std.proofs.lemmas.Bool.Decides.{nat_tests}
 use Rattle.mz_shell.specs.Lines.{lines_of, onto_first, whole_lines, onto_some}
-use Rattle.mz_shell.specs.Spelling.{words_of, is_end}
 
 -- all that is left of a list behind a place, as a slice up to its length
 pub behind : {A : Type 0} (n : ℕ) (xs : List A) → take (length xs - n) (drop n xs) ≡ drop n xs
@@ -63,42 +62,6 @@ lines_none (b ∷ bs) h e = lines_none-step b bs (eqb b 10) (lines_none bs) e
 pub lines_last : (bytes : List ℕ) → 0 < length bytes → position (λ b. eqb b 10) bytes ≡ None → lines_of bytes ≡ bytes ∷ []
 lines_last bytes h e = lines_none bytes h (found_none (first_end bytes) (length bytes) e)
 
--- where the first space stands
-abbrev first_space : List ℕ → ℕ
-first_space bytes = position_or_len (λ b. eqb b 32) bytes
-
-words_at-step : (b : ℕ) (bs : List ℕ) (t : Bool)
-    → (first_space bs < length bs → words_of bs ≡ take (first_space bs) bs ∷ words_of (drop (first_space bs + 1) bs))
-    → cond (not t) (1 + first_space bs) 0 < length (b ∷ bs)
-    → cond t ([] ∷ words_of bs) (onto_first b (words_of bs)) ≡ take (cond (not t) (1 + first_space bs) 0) (b ∷ bs) ∷ words_of (drop (cond (not t) (1 + first_space bs) 0 + 1) (b ∷ bs))
-words_at-step b bs true ih h = refl
-words_at-step b bs false ih h = rw (one-add, add-one, ih (omega arith), add-one) refl
-
--- a space at the place: the word before it, and the words behind it
-words_at : (bytes : List ℕ) → first_space bytes < length bytes → words_of bytes ≡ take (first_space bytes) bytes ∷ words_of (drop (first_space bytes + 1) bytes)
-words_at [] h = absurd (omega (arith, h))
-words_at (b ∷ bs) h = words_at-step b bs (eqb b 32) (words_at bs) h
-
--- the same by what a search for a space found
-pub words_split : (text : List ℕ) (end : ℕ) → position (λ b. eqb b 32) text ≡ Some end → words_of text ≡ take end text ∷ words_of (take (length text - (end + 1)) (drop (end + 1) text))
-words_split text end h =
-    let found : (first_space text < length text) × (first_space text ≡ end) = found_some (first_space text) (length text) end h in
-    rw behind (subst (λ (n : ℕ). words_of text ≡ take n text ∷ words_of (drop (n + 1) text)) found.1 (words_at text found.0))
-
-words_none-step : (b : ℕ) (bs : List ℕ) (t : Bool) → (length bs ≤ first_space bs → words_of bs ≡ bs ∷ [])
-    → length (b ∷ bs) ≤ cond (not t) (1 + first_space bs) 0 → cond t ([] ∷ words_of bs) (onto_first b (words_of bs)) ≡ (b ∷ bs) ∷ []
-words_none-step b bs true ih h = absurd (omega arith)
-words_none-step b bs false ih h = rw (ih (omega arith)) refl
-
--- no space: the text is one word
-words_none : (bytes : List ℕ) → length bytes ≤ first_space bytes → words_of bytes ≡ bytes ∷ []
-words_none [] e = refl
-words_none (b ∷ bs) e = words_none-step b bs (eqb b 32) (words_none bs) e
-
--- the same by what a search for a space found
-pub words_last : (text : List ℕ) → position (λ b. eqb b 32) text ≡ None → words_of text ≡ text ∷ []
-words_last text e = words_none text (found_none (first_space text) (length text) e)
-
 onto_some-more : (b : ℕ) (xs : List ℕ) (c : ℕ) → onto_some b (xs ++ c ∷ []) ≡ b ∷ (xs ++ c ∷ [])
 onto_some-more b [] c = refl
 onto_some-more b (x ∷ xs) c = refl
@@ -129,19 +92,6 @@ pub whole_more : (bytes : List ℕ) (place d : ℕ) → place < length bytes
 whole_more bytes place d h =
     ap length (ap whole_lines (take_more bytes place d h) ∙ whole_push (take place bytes) (get_or bytes place d))
     ∙ whole_more-step (take place bytes) (get_or bytes place d) place (eqb (get_or bytes place d) 10) (length-take-le place bytes (omega arith))
-
-onto_first_goes_on : (b : ℕ) (words : List (List ℕ)) → is_end (onto_first b words) ≡ false
-onto_first_goes_on b [] = refl
-onto_first_goes_on b (word ∷ words) = refl
-
-words_go_on-step : (b : ℕ) (bs : List ℕ) (t : Bool) → is_end (cond t ([] ∷ words_of bs) (onto_first b (words_of bs))) ≡ false
-words_go_on-step b bs true = refl
-words_go_on-step b bs false = onto_first_goes_on b (words_of bs)
-
--- there is a word in every text
-pub words_go_on : (text : List ℕ) → is_end (words_of text) ≡ false
-words_go_on [] = refl
-words_go_on (b ∷ bs) = words_go_on-step b bs (eqb b 32)
 
 whole_front-step : (b : ℕ) (bs : List ℕ) (t : Bool) → take (length (whole_lines bs)) bs ≡ whole_lines bs
     → take (length (cond t (b ∷ whole_lines bs) (onto_some b (whole_lines bs)))) (b ∷ bs) ≡ cond t (b ∷ whole_lines bs) (onto_some b (whole_lines bs))

@@ -1,12 +1,5 @@
 pub mod Lines
-pub mod Spelling
-pub mod ScriptLines
-pub mod Texts
-pub mod Machine
 pub mod Transcript
-pub mod State
-pub mod Ready
-pub mod Stands
-pub mod World
+pub mod Carrier
 pub mod Reading
 pub mod Runs

@@ -4,8 +4,8 @@ use Rattle.std.specs.declared.option.Option.{Option}
 use Rattle.std.specs.Io.KnownBytes.{Appends, Consumes, IsAtEnd}
 use Rattle.mz_io.specs.Causes.{Rose}
 use Rattle.mz_io.specs.Written.{AppendsFront}
-use Rattle.mz_kv_log.specs.Legal.{Legal}
-use Rattle.mz_kv_log.specs.History.{Replays}
+use Rattle.mz_books.specs.History.{Replays}
+use Rattle.mz_books.specs.Legal.{Legal}
 use Rattle.mz_shell.specs.declared.script.Stop.{Stop}
 use Rattle.mz_shell.specs.declared.script.Stop.TheVariants.{Source, Sink, Memory, TooLong}
 use Rattle.mz_shell.specs.Lines.{whole_lines}
@@ -13,7 +13,7 @@ use Rattle.mz_shell.specs.Transcript.{transcript, log_of}
 
 -- the most bytes that a script may have
 abbrev pub longest_input : ℕ
-longest_input = 65536
+longest_input = 67108864
 
 -- the one line that is written where the words are refused
 abbrev pub usage : List ℕ

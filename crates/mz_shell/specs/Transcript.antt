@@ -1,23 +1,23 @@
 -- What a script comes to: its transcript and its log.
-use Rattle.std.specs.Prelude.{ℕ, List, [], ◌∷◌, ◌++◌}
-use Rattle.mz_kv_log.specs.Log.{Log}
+use Rattle.std.specs.Prelude.{ℕ, List, map}
+use Rattle.mz_log.specs.Log.{Log}
+use Rattle.mz_script.specs.Built.{after_built_lines}
+use Rattle.mz_script.specs.Lines.{line_says}
+use Rattle.mz_script.specs.ScriptLine.{Machine, Said, opening_machine}
 use Rattle.mz_shell.specs.Lines.{lines_of}
-use Rattle.mz_shell.specs.Machine.{Machine, opening, after_line, line_text}
 
--- the machine after these lines
-abbrev pub after_lines : Machine → List (List ℕ) → Machine
-after_lines machine [] = machine
-after_lines machine (line ∷ lines) = after_lines (after_line machine line) lines
+-- what lines do, one after another, once they are read
+abbrev pub after_read_lines : List (List ℕ) → Machine → Said
+after_read_lines lines machine = after_built_lines (map line_says lines) machine
 
--- what is written after these lines, a text for each
-abbrev pub lines_text : Machine → List (List ℕ) → List ℕ
-lines_text machine [] = []
-lines_text machine (line ∷ lines) = line_text machine line ++ lines_text (after_line machine line) lines
+-- what the lines of a script do, from the opening machine on
+abbrev pub after_script : List ℕ → Said
+after_script script = after_read_lines (lines_of script) opening_machine
 
--- the transcript of a script: what its lines are answered, one after another, from the opening state on
+-- the transcript of a script: what its lines are answered, one after another
 abbrev pub transcript : List ℕ → List ℕ
-transcript script = lines_text opening (lines_of script)
+transcript script = (after_script script).text
 
 -- the log of a script
 abbrev pub log_of : List ℕ → Log
-log_of script = (after_lines opening (lines_of script)).log
+log_of script = (after_script script).machine.log

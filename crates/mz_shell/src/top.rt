@@ -2,6 +2,7 @@
 ghost use Rattle.std.specs.Prelude.{◌≡◌, ◌≢◌};
 ghost use Rattle.mz_shell.specs.Runs.{script_words, IsScriptAnswer, IsRefusal};
 
+use crate::carrier::Carrier;
 use crate::script::{flushed, run_script};
 use crate::status::{REFUSED, SINK_FAILED};
 use crate::words::Words;
@@ -25,7 +26,12 @@ fn refuse<K: Sink>(sink: &mut K) -> u8
 /// Does all that the program does: takes the words of the command line, and the source and the sink that are handed in, and ends
 /// with the status. The word `script` runs a script, as `run_script` does; all other words are refused with status 2 and the
 /// usage line, and the source is not touched.
-pub fn run<S: Source, K: Sink>(alloc: Global, words: &Words, source: &mut S, sink: &mut K) -> u8
+pub fn run<C: Carrier, S: Source, K: Sink>(
+    alloc: Global,
+    words: &Words,
+    source: &mut S,
+    sink: &mut K,
+) -> u8
     ensures script { words.now ≡ script_words → IsScriptAnswer
         (S.left source.old) (S.left source.new) (K.written sink.old) (K.written sink.new)
         (S.faults source.old) (S.faults source.new) (K.faults sink.old) (K.faults sink.new) result }
@@ -34,7 +40,7 @@ pub fn run<S: Source, K: Sink>(alloc: Global, words: &Words, source: &mut S, sin
     ensures unread { words.now ≢ script_words → source.new ≡ source.old }
 {
     if words.ask_for_script() {
-        run_script(alloc, source, sink)
+        run_script::<C, S, K>(alloc, source, sink)
     } else {
         refuse(sink)
     }

@@ -1,20 +1,21 @@
 -- Each piece goes on from what was read before it.
 use Rattle.std.proofs.Common.{arith}
-use Rattle.mz_shell.specs.World.{state_of}
-use Rattle.mz_shell.specs.Runs.{longest_input}
-use Rattle.mz_shell.proofs.StreamLemmas.{going_fresh, going_sound, stops_earlier}
+use Rattle.mz_shell.proofs.StreamLemmas.{going_fresh, going_few, going_kept}
+use Rattle.mz_shell.proofs.NextLemmas.{stops_earlier}
 use Rattle.mz_shell.proofs.script.Script.read_all.Goals as goal
 
 pub pieces-init : goal.pieces-init
 pieces-init g c = record {
-  going = going_fresh _ _ (state_of c.args.self.now.world) c.args.self.now.waiting.items c.requires.state c.requires.waiting;
+  going = going_fresh _ _ _ _ c.args.self.now.waiting.items c.requires.stands c.requires.lines c.requires.waiting;
   source_later = omega arith;
   sink_later = omega arith;
 }
 
-pub next_piece-requires-clause-sound : goal.next_piece-requires-clause-sound
-next_piece-requires-clause-sound g c =
-    going_sound _ _ _ _ (state_of c.pieces.self.world) c.pieces.self.waiting.items c.pieces.count longest_input c.pieces.invariant.going (omega arith)
+pub next_piece-requires-clause-waiting : goal.next_piece-requires-clause-waiting
+next_piece-requires-clause-waiting g c = going_kept _ _ _ _ _ _ c.pieces.self.waiting.items c.pieces.count c.pieces.invariant.going
+
+pub next_piece-requires-clause-few : goal.next_piece-requires-clause-few
+next_piece-requires-clause-few g c = going_few _ _ _ _ _ _ c.pieces.self.waiting.items c.pieces.count c.pieces.invariant.going
 
 pub pieces-smaller : goal.pieces-smaller
 pieces-smaller g c =

@@ -1,14 +1,43 @@
--- What waited, with the whole lines of the piece, is answered in a sound state.
-use Rattle.std.proofs.Common.{◌≡◌, ◌+◌, ap, arith, length, length-append, ◌∙◌}
-use Rattle.mz_shell.proofs.LineLemmas.{whole_within}
-use Rattle.mz_shell.proofs.SoundLemmas.{sound_less}
+-- A piece without LF waits; of another one, what it completes is answered, and what is behind it waits.
+use Rattle.std.proofs.Common.{ap}
+use Rattle.mz_shell.proofs.TakeLemmas.{completed_is, few_add, few_none, few_some, front_some, left_is, on_ok, some_at}
 use Rattle.mz_shell.proofs.script.Script.take.Goals as goal
+
+pub returns-then-is_empty-clause-few : goal.returns-then-is_empty-clause-few
+returns-then-is_empty-clause-few g c =
+    on_ok c.wait.result c.wait.ensures.ok
+    (λ waits. few_none _ _ c.args.self.now.waiting.items c.wait.new.self.waiting.items c.args.piece.now (ap g.C.Carrier.lines c.wait.ensures.carrier) waits)
 
 pub answer-requires : goal.answer-requires
 answer-requires g c =
-    let waiting = c.args.self.now.waiting.items in
-    let new = c.split_whole.result.0.now in
-    let grown : length c.wait-2.new.self.waiting.items ≡ length waiting + length new = ap length c.in_ok-wait.ensures.ok ∙ length-append waiting new in
-    let whole = ap length c.split_whole.ensures.whole in
-    let within = whole_within c.args.piece.now in
-    rw c.in_ok-wait.ensures.world (sound_less _ _ _ c.requires (omega arith))
+    few_add _ _ c.args.self.now.waiting.items c.split_whole.result.0.now c.add.new.self.waiting.items c.args.piece.now
+    (ap g.C.Carrier.lines c.add.ensures.carrier) c.in_ok-add.ensures.ok c.split_whole.ensures.whole c.requires.few
+
+pub returns-in_err-answer-clause-front : goal.returns-in_err-answer-clause-front
+returns-in_err-answer-clause-front g c = λ machine stands.
+    front_some _ _ machine c.args.self.now.waiting.items c.args.piece.now c.add.new.self.waiting.items
+    (completed_is c.args.self.now.waiting.items c.args.piece.now c.split_whole.result.0.now c.add.new.self.waiting.items c.split_whole.ensures.whole
+    (some_at c.split_whole.result.0.now c.is_empty.result c.is_empty.ensures c.if-is_empty.false) c.in_ok-add.ensures.ok)
+    (c.in_err-answer.ensures.front machine (rw c.add.ensures.carrier stands))
+
+pub returns-clause-front : goal.returns-clause-front
+returns-clause-front g c = λ machine stands.
+    front_some _ _ machine c.args.self.now.waiting.items c.args.piece.now c.add.new.self.waiting.items
+    (completed_is c.args.self.now.waiting.items c.args.piece.now c.split_whole.result.0.now c.add.new.self.waiting.items c.split_whole.ensures.whole
+    (some_at c.split_whole.result.0.now c.is_empty.result c.is_empty.ensures c.if-is_empty.false) c.in_ok-add.ensures.ok)
+    (c.in_ok-answer.ensures.front machine (rw c.add.ensures.carrier stands))
+
+pub returns-clause-few : goal.returns-clause-few
+returns-clause-few g c =
+    on_ok c.wait-2.result c.wait-2.ensures.ok
+    (λ waits. few_some _ _ _ _ c.args.self.now.waiting.items c.split_whole.result.0.now c.add.new.self.waiting.items c.answer.new.self.waiting.items
+    c.split_whole.result.1.now c.wait-2.new.self.waiting.items c.args.piece.now (ap g.C.Carrier.lines c.add.ensures.carrier) c.in_ok-add.ensures.ok
+    c.split_whole.ensures.whole c.in_ok-answer.ensures.few c.in_ok-answer.ensures.waiting (ap g.C.Carrier.lines c.wait-2.ensures.carrier)
+    c.split_whole.ensures.behind waits)
+
+pub returns-clause-waiting : goal.returns-clause-waiting
+returns-clause-waiting g c =
+    on_ok c.wait-2.result c.wait-2.ensures.ok
+    (λ waits. left_is c.args.self.now.waiting.items c.args.piece.now c.split_whole.result.0.now c.answer.new.self.waiting.items c.split_whole.result.1.now
+    c.wait-2.new.self.waiting.items c.split_whole.ensures.whole (some_at c.split_whole.result.0.now c.is_empty.result c.is_empty.ensures c.if-is_empty.false)
+    c.in_ok-answer.ensures.waiting c.split_whole.ensures.behind waits)

@@ -1,4 +1,0 @@
-pub mod Order
-pub mod Sessions
-pub mod RealTime
-pub mod Tables

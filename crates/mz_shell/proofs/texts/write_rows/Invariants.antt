@@ -1,8 +1,0 @@
--- what is written, with the rows that are left, is the text before with all rows
-use Rattle.std.proofs.Common.{◌≡◌, ◌++◌, drop, string_bytes}
-use Rattle.mz_shell.specs.Texts.{rows_text}
-use Rattle.mz_shell.proofs.texts.write_rows.Given as goal
-
-abbrev pub invariant-loop-row : goal.invariant-loop-row
-invariant-loop-row l =
-    string_bytes l.text ++ rows_text (drop l.row-index l.rows) ≡ string_bytes l.initial.text ++ rows_text l.initial.rows
