@@ -1,6 +1,7 @@
 //! Scripts from the bytes to the transcript, and each way in which one ends early.
 ghost use Rattle.std.specs.Prelude.{◌<◌};
 
+use crate::counter::Counter;
 use mz_io::{MemorySink, MemorySource, Sink, Source};
 use mz_shell::*;
 use mz_value::Text;
@@ -8,19 +9,19 @@ use std::alloc::{AllocError, Global};
 use std::process::Abort;
 use std::test::Fail;
 
-/// Lines of one session, one of which is cut off.
-const CUT: &[u8] = b"s1: INSERT INTO kv VALUES (1, 10)\ncom";
+/// Two lines, one of which is cut off.
+const CUT: &[u8] = b"hello\ncom";
 
-/// A script with a remark, an end of line as Windows has it, and a last line without its end.
-const LINES: &[u8] =
-    b"-- a remark\ns1: INSERT INTO kv VALUES (1, 10), (2, -20)\r\n\ncommit\ns1: SELECT * FROM kv\nsettle\nhello";
+/// A script with a remark, an end of line as Windows has it, lines that can't be read or aren't built, and a last line without
+/// its end.
+const LINES: &[u8] = b"-- a remark\nhello\r\n\ncrash r1\nbegin now\n  \nfeed r1";
 
 /// What `LINES` is answered.
 const REPLIES: &[u8] =
-    b"s1#1 queued\nround 1 at 1: 1 commands\nround 1 done\ns1#1 at 1: inserted 2\ns1#2 reading at 1, peek 1\ns1#2 at 1: 2 rows\n  1 x (1, 10)\n  1 x (2, -20)\nline 7 is not built\n";
+    b"line 2 is unreadable\nline 4 is not built\nline 5 is unreadable\nline 6 is unreadable\nline 7 is not built\n";
 
-/// What a first round without commands is answered.
-const EMPTY_ROUND: &[u8] = b"round 1 at 1: 0 commands\nround 1 done\n";
+/// What a first line is answered that can't be read.
+const UNREADABLE: &[u8] = b"line 1 is unreadable\n";
 
 /// The line that refused words are answered.
 const USAGE: &[u8] = b"usage: coordinate script | threads N | load SEED SIZE\n";
@@ -68,7 +69,7 @@ fn run_words(
     sink: &mut MemorySink,
 ) -> Result<Outcome, AllocError> {
     let words = words_of(alloc, words)?;
-    let status = run(alloc, &words, source, sink);
+    let status = run::<Counter, MemorySource, MemorySink>(alloc, &words, source, sink);
     let written = sink.written().to_vec(alloc)?;
     Ok(Outcome { status, written })
 }
@@ -115,70 +116,8 @@ fn check_script(
 #[test]
 fn a_line_alone_is_answered(rt: HostRuntime) -> Result<(), Fail> {
     check_script(&rt, rt.alloc(), b"", b"")?;
-    check_script(&rt, rt.alloc(), b"hello\n", b"line 1 is not built\n")?;
+    check_script(&rt, rt.alloc(), b"hello\n", UNREADABLE)?;
     check_script(&rt, rt.alloc(), LINES, REPLIES)?;
-    Ok(())
-}
-
-#[test]
-fn a_round_answers_its_commands(rt: HostRuntime) -> Result<(), Fail> {
-    check_script(
-        &rt,
-        rt.alloc(),
-        b"s1: INSERT INTO kv VALUES (1, 10)\ns2: INSERT INTO kv VALUES (2, 20)\ncommit\ns1: SELECT * FROM kv\nsettle\n",
-        b"s1#1 queued\ns2#1 queued\nround 1 at 1: 2 commands\nround 1 done\ns1#1 at 1: inserted 1\ns2#1 at 1: inserted 1\ns1#2 reading at 1, peek 1\ns1#2 at 1: 2 rows\n  1 x (1, 10)\n  1 x (2, 20)\n",
-    )?;
-    Ok(())
-}
-
-#[test]
-fn a_row_that_is_named_twice_counts_twice(rt: HostRuntime) -> Result<(), Fail> {
-    check_script(
-        &rt,
-        rt.alloc(),
-        b"s1: INSERT INTO kv VALUES (1, 10), (1, 10)\ncommit\ns1: SELECT * FROM kv\nsettle\n",
-        b"s1#1 queued\nround 1 at 1: 1 commands\nround 1 done\ns1#1 at 1: inserted 2\ns1#2 reading at 1, peek 1\ns1#2 at 1: 1 rows\n  2 x (1, 10)\n",
-    )?;
-    Ok(())
-}
-
-#[test]
-fn a_read_keeps_its_time(rt: HostRuntime) -> Result<(), Fail> {
-    check_script(
-        &rt,
-        rt.alloc(),
-        b"s1: SELECT * FROM kv\ns2: INSERT INTO kv VALUES (3, 3)\nsettle\n",
-        b"s1#1 reading at 0, peek 1\ns2#1 queued\nround 1 at 1: 1 commands\nround 1 done\ns2#1 at 1: inserted 1\ns1#1 at 0: 0 rows\n",
-    )?;
-    Ok(())
-}
-
-#[test]
-fn a_session_that_waits_is_refused(rt: HostRuntime) -> Result<(), Fail> {
-    check_script(
-        &rt,
-        rt.alloc(),
-        b"s1: INSERT INTO kv VALUES (1, 10)\ns1: SELECT * FROM kv\ncommit\n",
-        b"s1#1 queued\ns1 refused 10: call 1\nround 1 at 1: 1 commands\nround 1 done\ns1#1 at 1: inserted 1\n",
-    )?;
-    Ok(())
-}
-
-/// A script in which so many sessions say something.
-fn sessions(alloc: Global, count: u64) -> Result<String, AllocError> {
-    let mut script = String::new(alloc);
-    for number in 1..=count {
-        write!(script, "s{number}: INSERT INTO kv VALUES (1, 1)\n")?;
-    }
-    Ok(script)
-}
-
-#[test]
-fn a_65th_session_is_refused(rt: HostRuntime) -> Result<(), Fail> {
-    let script = sessions(rt.alloc(), 65)?;
-    let outcome = run_whole(rt.alloc(), script.as_bytes())?;
-    let end = b"s64#1 queued\ns65 refused 17: sessions 64\n";
-    assert!(rt; outcome.written.ends_with(end));
     Ok(())
 }
 
@@ -194,7 +133,7 @@ fn pieces_of_any_size_give_the_same_transcript(rt: HostRuntime) -> Result<(), Fa
 #[test]
 fn whole_lines_are_answered_before_the_source_fails(rt: HostRuntime) -> Result<(), Fail> {
     let outcome = run_pieces(rt.alloc(), CUT, 65_536, &[2], 65_536, &[])?;
-    check_outcome(&rt, &outcome, SOURCE_FAILED, b"s1#1 queued\n");
+    check_outcome(&rt, &outcome, SOURCE_FAILED, UNREADABLE);
     Ok(())
 }
 
@@ -205,7 +144,7 @@ fn wrote_front(outcome: &Outcome, status: u8) -> bool {
 
 #[test]
 fn a_source_that_fails_at_any_call_leaves_a_front(rt: HostRuntime) -> Result<(), Fail> {
-    for call in 1..=15 {
+    for call in 1..=8 {
         let outcome = run_pieces(rt.alloc(), LINES, 7, &[call], 65_536, &[])?;
         assert!(rt; wrote_front(&outcome, SOURCE_FAILED), "at call {call}");
     }
@@ -214,7 +153,7 @@ fn a_source_that_fails_at_any_call_leaves_a_front(rt: HostRuntime) -> Result<(),
 
 #[test]
 fn a_sink_that_fails_at_any_call_holds_a_front(rt: HostRuntime) -> Result<(), Fail> {
-    for call in 1..=18 {
+    for call in 1..=12 {
         let outcome = run_pieces(rt.alloc(), LINES, 65_536, &[], 10, &[call])?;
         assert!(rt; wrote_front(&outcome, SINK_FAILED), "at call {call}");
     }
@@ -224,7 +163,7 @@ fn a_sink_that_fails_at_any_call_holds_a_front(rt: HostRuntime) -> Result<(), Fa
 #[test]
 fn a_sink_that_fails_keeps_what_it_took(rt: HostRuntime) -> Result<(), Fail> {
     let outcome = run_pieces(rt.alloc(), CUT, 65_536, &[], 10, &[2])?;
-    check_outcome(&rt, &outcome, SINK_FAILED, b"s1#1 queue");
+    check_outcome(&rt, &outcome, SINK_FAILED, b"line 1 is ");
     Ok(())
 }
 
@@ -238,12 +177,12 @@ fn a_failing_flush_has_had_the_transcript(rt: HostRuntime) -> Result<(), Fail> {
 #[test]
 fn a_piece_is_answered_before_the_next_is_read(rt: HostRuntime) -> Result<(), Fail> {
     // The answer to the second piece can't be written, so the third piece is still to be read.
-    let mut source = source_of(rt.alloc(), b"commit\ncommit\nsettle\n", 7, &[])?;
+    let mut source = source_of(rt.alloc(), b"hello\nworld\nagain\n", 6, &[])?;
     let mut sink = sink_of(rt.alloc(), 65_536, &[2])?;
     let outcome = run_words(rt.alloc(), &["script"], &mut source, &mut sink)?;
-    check_outcome(&rt, &outcome, SINK_FAILED, EMPTY_ROUND);
-    let mut next = [0; 7];
-    assert!(rt; source.read(&mut next) == Ok(7) && next == *b"settle\n");
+    check_outcome(&rt, &outcome, SINK_FAILED, UNREADABLE);
+    let mut next = [0; 6];
+    assert!(rt; source.read(&mut next) == Ok(6) && next == *b"again\n");
     Ok(())
 }
 
@@ -276,25 +215,73 @@ fn other_words_are_refused(rt: HostRuntime) -> Result<(), Fail> {
     Ok(())
 }
 
-/// A commit, and one line without its end behind it, so many bytes in all.
-fn commit_and_a_line(alloc: Global, len: usize) -> Result<Vec<u8>, AllocError> {
-    let mut script = b"commit\n".to_vec(alloc)?;
-    script.resize(len, b'x')?;
+#[test]
+fn a_line_that_finds_no_memory_ends_the_script(rt: HostRuntime) -> Result<(), Fail> {
+    let outcome = run_pieces(rt.alloc(), b"hello\ncommit\nhello\n", 6, &[], 65_536, &[])?;
+    check_outcome(&rt, &outcome, NO_MEMORY, UNREADABLE);
+    Ok(())
+}
+
+/// Some bytes, and behind them one byte as often as makes so many in all, and other bytes.
+fn filled(
+    alloc: Global,
+    front: &[u8],
+    byte: u8,
+    len: usize,
+    end: &[u8],
+) -> Result<Vec<u8>, AllocError> {
+    let mut script = front.to_vec(alloc)?;
+    script.resize(len, byte)?;
+    script.extend_from_slice(end)?;
     Ok(script)
+}
+
+/// Holds what a remark of so many bytes is answered, with this behind it, against what it should be.
+fn check_remark(
+    rt: &impl Abort,
+    alloc: Global,
+    len: usize,
+    end: &[u8],
+    text: &[u8],
+) -> Result<(), AllocError> {
+    check_script(rt, alloc, &filled(alloc, b"", b'-', len, end)?, text)
+}
+
+#[test]
+fn a_line_has_at_most_65536_bytes(rt: HostRuntime) -> Result<(), Fail> {
+    check_remark(&rt, rt.alloc(), 65_536, b"", b"")?;
+    check_remark(&rt, rt.alloc(), 65_536, b"\n", b"")?;
+    check_remark(&rt, rt.alloc(), 65_535, b"\r\n", b"")?;
+    check_remark(&rt, rt.alloc(), 65_537, b"", UNREADABLE)?;
+    check_remark(&rt, rt.alloc(), 65_537, b"\n", UNREADABLE)?;
+    check_remark(&rt, rt.alloc(), 65_536, b"\r\n", UNREADABLE)?;
+    Ok(())
+}
+
+#[test]
+fn a_long_line_is_one_line(rt: HostRuntime) -> Result<(), Fail> {
+    let text = b"line 1 is unreadable\nline 2 is unreadable\n";
+    check_remark(&rt, rt.alloc(), 200_000, b"\nhello", text)?;
+    Ok(())
 }
 
 #[test]
 fn a_last_line_within_the_limit_counts(rt: HostRuntime) -> Result<(), Fail> {
-    let script = commit_and_a_line(rt.alloc(), 65_536)?;
+    let script = filled(rt.alloc(), b"hello\n", b'x', LONGEST_INPUT, b"")?;
     let outcome = run_whole(rt.alloc(), &script)?;
-    assert!(rt; outcome.status == DONE && outcome.written.ends_with(b"line 2 is not built\n"));
+    check_outcome(
+        &rt,
+        &outcome,
+        DONE,
+        b"line 1 is unreadable\nline 2 is unreadable\n",
+    );
     Ok(())
 }
 
 #[test]
 fn a_line_that_the_limit_cuts_does_not_count(rt: HostRuntime) -> Result<(), Fail> {
-    let script = commit_and_a_line(rt.alloc(), 65_537)?;
+    let script = filled(rt.alloc(), b"hello\n", b'x', LONGEST_INPUT, b"x")?;
     let outcome = run_whole(rt.alloc(), &script)?;
-    check_outcome(&rt, &outcome, TOO_LONG, EMPTY_ROUND);
+    check_outcome(&rt, &outcome, TOO_LONG, UNREADABLE);
     Ok(())
 }
