@@ -2,6 +2,7 @@ pub mod Dropped
 pub mod Written
 pub mod Transaction
 pub mod Rows
+pub mod ReadLines
 pub mod Followed
 pub mod Halves
 pub mod Reports

@@ -6,3 +6,4 @@ pub mod Cancelled
 pub mod Twice
 pub mod Asking
 pub mod Crashes
+pub mod Lines

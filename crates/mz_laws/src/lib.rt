@@ -7,4 +7,4 @@ mod answers;
 mod examples;
 
 pub use answers::answers_may_follow;
-pub use examples::worked_examples;
+pub use examples::{worked_examples, worked_lines};
