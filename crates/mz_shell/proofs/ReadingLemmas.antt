@@ -7,7 +7,7 @@ use Rattle.mz_script.specs.declared.script_line.ScriptLine.{ScriptLine}
 use Rattle.mz_script.specs.Built.{after_built_line, after_built_lines}
 use Rattle.mz_script.specs.Lines.{line_says}
 use Rattle.mz_script.specs.ScriptLine.{Machine}
-use Rattle.mz_shell.specs.Carrier.{DidLines}
+use Rattle.mz_shell.specs.Carrier.{DidLines, IsCarrying}
 use Rattle.mz_shell.specs.Transcript.{after_read_lines}
 use Rattle.mz_shell.specs.Reading.{completed, left_waiting, kept}
 
@@ -53,6 +53,12 @@ pub front_none : (written : Option (List ℕ)) (text : List ℕ) → AppendsFron
 front_none written text = (0, omega arith, Appends-nil written)
 
 -- ---- lines, each as it is read
+
+-- a line leaves who carries it out standing for some machine
+pub carrying_next : (Stands Now : Machine → Type 0) (before after : List ℕ) (line : ScriptLine) → IsCarrying Stands
+    → ((machine : Machine) → Stands machine → DidLines Now before after (after_built_line machine line)) → IsCarrying Now
+carrying_next Stands Now before after line some does =
+    record { machine = (after_built_line some.machine line).machine; stands = (does some.machine some.stands).stands }
 
 -- what lines did so far: with the lines that are left, what all of them do
 pub record HasDone (Stands : Machine → Type 0) (text text' : List ℕ) (machine : Machine) (all rest : List (List ℕ)) : Type 0 where

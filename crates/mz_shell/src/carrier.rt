@@ -3,7 +3,7 @@ ghost use Rattle.std.specs.Prelude.{◌≡◌, ℕ, ◌+◌, ◌<◌, IfOk, OnOk
 ghost use Rattle.mz_script.specs.ScriptLine.{Machine, opening_machine};
 ghost use Rattle.mz_script.specs.Built.{IsHeard, after_built_line};
 ghost use Rattle.mz_books.specs.Legal.{Legal};
-ghost use Rattle.mz_shell.specs.Carrier.{DidLines, most_lines};
+ghost use Rattle.mz_shell.specs.Carrier.{DidLines, IsCarrying, most_lines};
 
 use mz_script::ScriptLine;
 use std::alloc::{AllocError, Global};
@@ -23,6 +23,7 @@ pub trait Carrier: Sized + Drop {
 
     /// Does what a line says, and writes its text behind what stands in the text. After an `Err` it may stand for nothing.
     fn line(&mut self, line: ScriptLine, text: &mut String) -> Result<(), AllocError>
+        requires machine { IsCarrying (stands self.old) }
         requires heard { IsHeard line }
         requires few { lines self.old < most_lines }
         ensures did { (machine : Machine) → stands self.old machine → OnOk result

@@ -6,7 +6,7 @@ ghost use Rattle.mz_io.specs.Causes.{Rose};
 ghost use Rattle.mz_io.specs.Written.{AppendsFront};
 ghost use Rattle.mz_script.specs.ScriptLine.{Machine, opening_machine};
 ghost use Rattle.mz_shell.specs.declared.script.Stop.TheVariants as Stop;
-ghost use Rattle.mz_shell.specs.Carrier.{DidLines, most_lines};
+ghost use Rattle.mz_shell.specs.Carrier.{DidLines, IsCarrying, most_lines};
 ghost use Rattle.mz_shell.specs.Lines.{lines_of, whole_lines};
 ghost use Rattle.mz_shell.specs.Transcript.{after_read_lines};
 ghost use Rattle.mz_shell.specs.Runs.{longest_input, IsFinished, StopsScript, ClosesAs, IsScriptAnswer};
@@ -77,7 +77,8 @@ fn answer_lines<C: Carrier>(
     lines: &[u8],
     text: &mut String,
 ) -> Result<(), AllocError>
-    requires { C.lines carrier.old + length lines.now ≤ most_lines }
+    requires machine { IsCarrying (C.stands carrier.old) }
+    requires few { C.lines carrier.old + length lines.now ≤ most_lines }
     ensures did { (machine : Machine) → C.stands carrier.old machine → OnOk result
         (DidLines (C.stands carrier.new) (string_bytes text.old) (string_bytes text.new)
         (after_read_lines (lines_of lines.now) machine)) }
@@ -110,7 +111,8 @@ impl<C: Carrier> Script<C> {
     // Answers the lines that wait, the last of which may be without its end.
     #[tactic(auto, using(crate::proofs::ReadingLemmas::front_none))]
     fn answer<K: Sink>(&mut self, sink: &mut K) -> Result<(), Stop>
-        requires { C.lines self.old.carrier + length self.old.waiting.items ≤ most_lines }
+        requires machine { IsCarrying (C.stands self.old.carrier) }
+        requires few { C.lines self.old.carrier + length self.old.waiting.items ≤ most_lines }
         ensures did { (machine : Machine) → C.stands self.old.carrier machine → OnOk result
             (DidWrite (C.stands self.new.carrier) (K.written sink.old) (K.written sink.new)
             (after_read_lines (lines_of self.old.waiting.items) machine)) }
@@ -154,6 +156,7 @@ impl<C: Carrier> Script<C> {
 
     // Takes a piece that came in, and answers the lines that it completes.
     fn take<K: Sink>(&mut self, piece: &[u8], sink: &mut K) -> Result<(), Stop>
+        requires machine { IsCarrying (C.stands self.old.carrier) }
         requires waiting { length self.old.waiting.items ≤ most_kept }
         requires few { C.lines self.old.carrier
             + (length self.old.waiting.items + length piece.now) ≤ most_lines }
@@ -190,6 +193,7 @@ impl<C: Carrier> Script<C> {
     ) -> Result<Option<usize>, Stop>
         requires count { count ≤ longest_input }
         requires piece { length piece.old ≡ longest_piece }
+        requires machine { IsCarrying (C.stands self.old.carrier) }
         requires waiting { length self.old.waiting.items ≤ most_kept }
         requires few { C.lines self.old.carrier
             + (length self.old.waiting.items + longest_piece) ≤ most_lines }

@@ -1,6 +1,6 @@
 -- Each piece goes on from what was read before it.
 use Rattle.std.proofs.Common.{arith}
-use Rattle.mz_shell.proofs.StreamLemmas.{going_fresh, going_few, going_kept}
+use Rattle.mz_shell.proofs.StreamLemmas.{going_fresh, going_few, going_kept, so_far}
 use Rattle.mz_shell.proofs.NextLemmas.{stops_earlier}
 use Rattle.mz_shell.proofs.script.Script.read_all.Goals as goal
 
@@ -10,6 +10,11 @@ pieces-init g c = record {
   source_later = omega arith;
   sink_later = omega arith;
 }
+
+pub next_piece-requires-clause-machine : goal.next_piece-requires-clause-machine
+next_piece-requires-clause-machine g c =
+    let going = c.pieces.invariant.going in
+    record { machine = so_far going.read; stands = going.stands }
 
 pub next_piece-requires-clause-waiting : goal.next_piece-requires-clause-waiting
 next_piece-requires-clause-waiting g c = going_kept _ _ _ _ _ _ c.pieces.self.waiting.items c.pieces.count c.pieces.invariant.going

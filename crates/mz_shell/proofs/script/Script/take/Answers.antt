@@ -8,8 +8,11 @@ returns-then-is_empty-clause-few g c =
     on_ok c.wait.result c.wait.ensures.ok
     (λ waits. few_none _ _ c.args.self.now.waiting.items c.wait.new.self.waiting.items c.args.piece.now (ap g.C.Carrier.lines c.wait.ensures.carrier) waits)
 
-pub answer-requires : goal.answer-requires
-answer-requires g c =
+pub answer-requires-clause-machine : goal.answer-requires-clause-machine
+answer-requires-clause-machine g c = rw c.add.ensures.carrier c.requires.machine
+
+pub answer-requires-clause-few : goal.answer-requires-clause-few
+answer-requires-clause-few g c =
     few_add _ _ c.args.self.now.waiting.items c.split_whole.result.0.now c.add.new.self.waiting.items c.args.piece.now
     (ap g.C.Carrier.lines c.add.ensures.carrier) c.in_ok-add.ensures.ok c.split_whole.ensures.whole c.requires.few
 
