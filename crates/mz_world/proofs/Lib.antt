@@ -1,0 +1,9 @@
+pub mod Carrying
+pub mod Given
+pub mod Standing
+pub mod Submissions
+pub mod RoundTexts
+pub mod RoundLines
+pub mod Resting
+pub mod Opening
+pub mod Calling
