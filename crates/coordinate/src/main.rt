@@ -1,11 +1,14 @@
 //! The program: its words, its input and its output are handed to `mz_shell::run`, and it ends with the status of that.
 //! Promises nothing of its own; `run` says what is read, what is written and which status that has.
-//! Stands on `mz_shell`, on `mz_io` for both ends and on `mz_value` for the words.
+//! Stands on `mz_shell`, on `mz_world` and `mz_plain` for who carries scripts out, on `mz_io` for both ends and on `mz_value` for the
+//! words.
 #![tactic(auto)]
 
 use mz_io::{ReadSource, WriteSink};
+use mz_plain::Plain;
 use mz_shell::{NO_MEMORY, Words, run};
 use mz_value::Text;
+use mz_world::World;
 use std::alloc::AllocError;
 use std::env;
 use std::process::ExitCode;
@@ -27,5 +30,5 @@ fn main(rt: HostRuntime) -> ExitCode {
     };
     let mut source = ReadSource::new(rt.stdin());
     let mut sink = WriteSink::new(rt.stdout());
-    ExitCode::from(run(rt.alloc(), &words, &mut source, &mut sink))
+    ExitCode::from(run::<World<Plain>, _, _>(rt.alloc(), &words, &mut source, &mut sink))
 }
