@@ -1,5 +1,5 @@
 -- The bound on what a plan counts, sums and multiplies.
-use Rattle.std.specs.Prelude.{◌≡◌, ℕ, ℤ, ◌*ℤ◌, ◌==◌, Bool, true, false, List, [], ◌∷◌, ◌++◌, map, ⊤}
+use Rattle.std.specs.Prelude.{ℕ, ℤ, ◌*ℤ◌, ◌==◌, Bool, true, false, List, [], ◌∷◌, ◌++◌, map, ⊤}
 use Rattle.std.specs.List.{AllByRecursion as Each}
 use Rattle.mz_bag.specs.Mass.{IsLight}
 use Rattle.mz_bag.specs.Weighted.{Weighted}

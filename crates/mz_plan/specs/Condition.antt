@@ -1,5 +1,5 @@
 -- When a condition holds of a row.
-use Rattle.std.specs.Prelude.{Bool, not, ◌&&◌, ◌||◌, List}
+use Rattle.std.specs.Prelude.{Bool, true, false, not, ◌&&◌, ◌||◌, List, [], ◌∷◌}
 use Rattle.std.specs.Ordering.{is_eq, is_lt, is_le, is_gt, is_ge}
 use Rattle.std.specs.declared.cmp.Ordering.{Ordering}
 use Rattle.mz_value.specs.declared.datum.Datum.{Datum}
@@ -8,7 +8,7 @@ use Rattle.mz_statement.specs.declared.condition.Op.TheVariants.{Eq, Ne, Lt, Le,
 use Rattle.mz_plan.specs.Value.{value_at, value_cmp}
 use Rattle.mz_plan.specs.declared.condition.Operand.{Operand}
 use Rattle.mz_plan.specs.declared.condition.Operand.TheVariants.{Place, Literal}
-use Rattle.mz_plan.specs.declared.condition.Cond.{Cond, And', Or', Not', Compare, more_of-Cond, end_of-Cond}
+use Rattle.mz_plan.specs.declared.condition.Cond.{Cond, All', Any', Not', Compare, Row_of-Cond, more_of-Cond, end_of-Cond}
 
 -- the sign says so of two values that compare like this
 abbrev pub op_holds : Op → Ordering → Bool
@@ -24,9 +24,30 @@ abbrev pub operand_value : Operand → List Datum → Datum
 operand_value (Place place) row = value_at row place
 operand_value (Literal value) row = value
 
--- the condition holds of the row
-abbrev pub holds : Cond → List Datum → Bool
-holds (And' p (more_of-Cond first end_of-Cond) q (more_of-Cond second end_of-Cond)) row = holds first row && holds second row
-holds (Or' p (more_of-Cond first end_of-Cond) q (more_of-Cond second end_of-Cond)) row = holds first row || holds second row
-holds (Not' p (more_of-Cond cond end_of-Cond)) row = not (holds cond row)
-holds (Compare place op operand) row = op_holds op (value_cmp (value_at row place) (operand_value operand row))
+abbrev mutual
+  -- the condition holds of the row
+  pub holds : Cond → List Datum → Bool
+  holds (All' shape conds) row = each_holds conds row
+  holds (Any' shape conds) row = some_holds conds row
+  holds (Not' p (more_of-Cond cond end_of-Cond)) row = not (holds cond row)
+  holds (Compare place op operand) row = op_holds op (value_cmp (value_at row place) (operand_value operand row))
+
+  -- each of the conditions holds of it
+  pub each_holds : {m : _} → Row_of-Cond m → List Datum → Bool
+  each_holds end_of-Cond row = true
+  each_holds (more_of-Cond cond conds) row = holds cond row && each_holds conds row
+
+  -- one of them does, or more
+  pub some_holds : {m : _} → Row_of-Cond m → List Datum → Bool
+  some_holds end_of-Cond row = false
+  some_holds (more_of-Cond cond conds) row = holds cond row || some_holds conds row
+
+-- each condition of a list holds of the row
+abbrev pub all_hold : List Cond → List Datum → Bool
+all_hold [] row = true
+all_hold (cond ∷ conds) row = holds cond row && all_hold conds row
+
+-- one condition of a list holds of the row, or more
+abbrev pub any_holds : List Cond → List Datum → Bool
+any_holds [] row = false
+any_holds (cond ∷ conds) row = holds cond row || any_holds conds row

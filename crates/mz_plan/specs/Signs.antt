@@ -1,5 +1,5 @@
 -- Lists that count no row below 0.
-use Rattle.std.specs.Prelude.{ℤ, pos, ◌≤ℤ◌, List}
+use Rattle.std.specs.Prelude.{pos, ◌≤ℤ◌, List}
 use Rattle.mz_value.specs.declared.datum.Datum.{Datum}
 use Rattle.mz_bag.specs.Weighted.{Weighted, count}
 

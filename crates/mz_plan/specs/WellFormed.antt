@@ -7,7 +7,7 @@ use Rattle.mz_statement.specs.declared.column.ColumnType.TheVariants as kind
 use Rattle.mz_plan.specs.Types.{may_compare, plan_types}
 use Rattle.mz_plan.specs.declared.aggregate.Aggregate.{Aggregate}
 use Rattle.mz_plan.specs.declared.aggregate.Aggregate.TheVariants.{Count, Sum, Min, Max}
-use Rattle.mz_plan.specs.declared.condition.Cond.{Cond, And', Or', Not', Compare, more_of-Cond, end_of-Cond}
+use Rattle.mz_plan.specs.declared.condition.Cond.{Cond, All', Any', Not', Compare, Row_of-Cond, more_of-Cond, end_of-Cond}
 use Rattle.mz_plan.specs.declared.condition.Operand.{Operand}
 use Rattle.mz_plan.specs.declared.condition.Operand.TheVariants.{Place, Literal}
 use Rattle.mz_plan.specs.declared.item.Item.{Item}
@@ -34,12 +34,18 @@ abbrev pub OperandFits : List ColumnType → ℕ → Operand → Type 0
 OperandFits types place (Place other) = AreOfOneType types place types other
 OperandFits types place (Literal literal) = IsComparable types place literal
 
--- each comparison of a condition fits rows of these types
-abbrev pub CondFits : List ColumnType → Cond → Type 0
-CondFits types (And' p (more_of-Cond first end_of-Cond) q (more_of-Cond second end_of-Cond)) = CondFits types first × CondFits types second
-CondFits types (Or' p (more_of-Cond first end_of-Cond) q (more_of-Cond second end_of-Cond)) = CondFits types first × CondFits types second
-CondFits types (Not' p (more_of-Cond cond end_of-Cond)) = CondFits types cond
-CondFits types (Compare place op operand) = OperandFits types place operand
+abbrev mutual
+  -- each comparison of a condition fits rows of these types
+  pub CondFits : List ColumnType → Cond → Type 0
+  CondFits types (All' shape conds) = AllFit types conds
+  CondFits types (Any' shape conds) = AllFit types conds
+  CondFits types (Not' p (more_of-Cond cond end_of-Cond)) = CondFits types cond
+  CondFits types (Compare place op operand) = OperandFits types place operand
+
+  -- so it is in each of the conditions
+  pub AllFit : {m : _} → List ColumnType → Row_of-Cond m → Type 0
+  AllFit types end_of-Cond = ⊤
+  AllFit types (more_of-Cond cond conds) = CondFits types cond × AllFit types conds
 
 -- a condition fits, where there is one
 abbrev pub SomeCondFits : List ColumnType → Option Cond → Type 0

@@ -1,11 +1,12 @@
 //! Conditions on rows whose columns are named by their places.
-ghost use Rattle.std.specs.Prelude.{◌≡◌, ◌&&◌, ◌||◌, IfOk};
-ghost use Rattle.mz_plan.specs.Condition.{holds, op_holds};
+ghost use Rattle.std.specs.Prelude.{◌≡◌, IfOk};
+ghost use Rattle.mz_plan.specs.Condition.{all_hold, any_holds, holds, op_holds, operand_value};
+ghost use Rattle.mz_plan.specs.Value.{value_at, value_cmp};
 
 use crate::value::{compare, value_or};
 use mz_statement::Op;
 use mz_value::{Datum, Row, TryCopy};
-use sqlite_items::Boxed;
+use sqlite_items::{Boxed, Items};
 use std::alloc::{AllocError, Global};
 use std::cmp::Ordering;
 
@@ -30,13 +31,14 @@ impl Operand {
     }
 }
 
-/// A condition on a row.
+/// A condition on a row. A list of conditions is gone through by loops, from its first one on, so
+/// copies, evaluations and drops nest as deep as lists and NOTs do, and no deeper the longer lists are.
 #[derive(Drop)]
 pub enum Cond {
-    /// Both conditions hold.
-    And(Boxed<Cond>, Boxed<Cond>),
-    /// One of the conditions holds, or both.
-    Or(Boxed<Cond>, Boxed<Cond>),
+    /// Each of the conditions holds. Of none that is so.
+    All(Items<Cond>),
+    /// One of the conditions holds, or more. Of none that isn't so.
+    Any(Items<Cond>),
     /// The condition doesn't hold.
     Not(Boxed<Cond>),
     /// The column at this place compares so with the operand.
@@ -57,55 +59,81 @@ fn op_holds(op: Op, ordering: Ordering) -> bool
     }
 }
 
-// Whether both are so.
-fn both(first: bool, second: bool) -> bool
-    ensures { result ≡ (first && second) }
+// Whether the column at this place compares so with the operand.
+fn compares(row: &Row, place: u64, op: Op, operand: &Operand) -> bool
+    ensures { result ≡ op_holds op (value_cmp (value_at row.now place) (operand_value operand.now row.now)) }
 {
-    first && second
+    let absent = Datum::Bool(false);
+    let value = value_or(row, place, &absent);
+    let ordering = match operand {
+        Operand::Place(other) => compare(value, value_or(row, *other, &absent)),
+        Operand::Literal(literal) => compare(value, literal),
+    };
+    op_holds(op, ordering)
 }
 
-// Whether one of them is so, or both.
-fn either(first: bool, second: bool) -> bool
-    ensures { result ≡ (first || second) }
+// Whether each of the conditions holds of a row. It stops at the first that doesn't.
+#[cycle(holds)]
+fn all_hold(conds: &[Cond], row: &Row) -> bool
+    ensures { result ≡ all_hold conds.now row.now }
 {
-    first || second
+    'conds: for cond in conds {
+        if !cond.holds(row) {
+            return false;
+        }
+    }
+    true
+}
+
+// Whether one of the conditions holds of a row, or more. It stops at the first that does.
+#[cycle(holds)]
+fn any_holds(conds: &[Cond], row: &Row) -> bool
+    ensures { result ≡ any_holds conds.now row.now }
+{
+    'conds: for cond in conds {
+        if cond.holds(row) {
+            return true;
+        }
+    }
+    false
+}
+
+// A copy of the conditions.
+#[cycle(copy)]
+fn copied(alloc: Global, conds: &[Cond]) -> Result<Vec<Cond>, AllocError>
+    ensures { IfOk result (λ copy. copy.items ≡ conds.now) }
+{
+    let mut copy = Vec::with_capacity(alloc, conds.len())?;
+    'conds: for cond in conds {
+        copy.push(cond.try_copy(alloc)?)?;
+    }
+    Ok(copy)
 }
 
 impl Cond {
-    /// Whether the condition holds of a row. Takes no memory.
+    /// Whether the condition holds of a row. A list is gone through by a loop, to the first of its conditions
+    /// that decides. Takes no memory.
+    #[cycle(holds)]
     #[tactic(auto, using(crate::proofs::ConditionRules::condition_rules))]
     pub fn holds(&self, row: &Row) -> bool
         ensures { result ≡ holds self.now row.now }
     {
         match self {
-            Cond::And(first, second) => both(first.get().holds(row), second.get().holds(row)),
-            Cond::Or(first, second) => either(first.get().holds(row), second.get().holds(row)),
+            Cond::All(conds) => all_hold(conds.as_slice(), row),
+            Cond::Any(conds) => any_holds(conds.as_slice(), row),
             Cond::Not(cond) => !cond.get().holds(row),
-            Cond::Compare(place, op, operand) => {
-                let absent = Datum::Bool(false);
-                let value = value_or(row, *place, &absent);
-                let ordering = match operand {
-                    Operand::Place(other) => compare(value, value_or(row, *other, &absent)),
-                    Operand::Literal(literal) => compare(value, literal),
-                };
-                op_holds(*op, ordering)
-            }
+            Cond::Compare(place, op, operand) => compares(row, *place, *op, operand),
         }
     }
 
-    /// A copy of the condition.
+    /// A copy of the condition. A list is copied by a loop.
+    #[cycle(copy)]
     pub fn try_copy(&self, alloc: Global) -> Result<Cond, AllocError>
         ensures { IfOk result (λ copy. copy ≡ self.now) }
     {
         Ok(match self {
-            Cond::And(first, second) => {
-                let first = Boxed::new(alloc, first.get().try_copy(alloc)?)?;
-                Cond::And(first, Boxed::new(alloc, second.get().try_copy(alloc)?)?)
-            }
-            Cond::Or(first, second) => {
-                let first = Boxed::new(alloc, first.get().try_copy(alloc)?)?;
-                Cond::Or(first, Boxed::new(alloc, second.get().try_copy(alloc)?)?)
-            }
+            Cond::All(conds) => Cond::All(Items::from_vec(copied(alloc, conds.as_slice())?)),
+            Cond::Any(conds) => Cond::Any(Items::from_vec(copied(alloc, conds.as_slice())?)),
             Cond::Not(cond) => Cond::Not(Boxed::new(alloc, cond.get().try_copy(alloc)?)?),
             Cond::Compare(place, op, operand) => {
                 Cond::Compare(*place, *op, operand.try_copy(alloc)?)

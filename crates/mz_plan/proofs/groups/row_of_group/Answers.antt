@@ -1,4 +1,3 @@
-use Rattle.std.proofs.Common.{get_or}
 use Rattle.mz_plan.specs.declared.aggregate.Aggregate.TheVariants.{Count}
 use Rattle.mz_plan.proofs.SumRules.{summable_at}
 use Rattle.mz_plan.proofs.groups.row_of_group.Goals as goal
