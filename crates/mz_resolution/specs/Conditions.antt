@@ -41,29 +41,18 @@ compared sight column op right = do
   left ← meant sight column
   with_side sight column op left right
 
--- how a list is joined: by AND, or else by OR
-abbrev pub join_by : Bool → Cond → Cond → Cond
-join_by true first second = cond.And first second
-join_by false first second = cond.Or first second
-
 abbrev mutual
-  -- a condition in reading order. A list of more than two is nested from the left
+  -- a condition, whose parts stand in the order of the tests
   pub tested : Sight → Test → Step Cond
-  tested sight (All' shape tests) = listed sight true tests
-  tested sight (Any' shape tests) = listed sight false tests
+  tested sight (All' shape tests) = listed sight tests >>= λ conds. Ok (cond.All conds)
+  tested sight (Any' shape tests) = listed sight tests >>= λ conds. Ok (cond.Any conds)
   tested sight (Not' place (more_of-Test test end_of-Test)) = tested sight test >>= λ below. Ok (cond.Not below)
   tested sight (Compare column op right) = compared sight column op right
 
-  -- a list that is joined by AND, or else by OR. No condition has an empty one
-  pub listed : {m : _} → Sight → Bool → Row_of-Test m → Step Cond
-  listed sight by_and end_of-Test = Err (WrongType [])
-  listed sight by_and (more_of-Test test tests) = tested sight test >>= λ first. joined sight by_and first tests
-
-  -- the conditions so far, joined with others
-  pub joined : {m : _} → Sight → Bool → Cond → Row_of-Test m → Step Cond
-  joined sight by_and first end_of-Test = Ok first
-  joined sight by_and first (more_of-Test test tests) =
-      tested sight test >>= λ second. joined sight by_and (join_by by_and first second) tests
+  -- the conditions of a list of tests, from the first
+  pub listed : {m : _} → Sight → Row_of-Test m → Step (List Cond)
+  listed sight end_of-Test = Ok []
+  listed sight (more_of-Test test tests) = tested sight test >>= λ first. listed sight tests >>= λ others. Ok (first ∷ others)
 
 -- the condition behind WHERE, where there is one
 abbrev pub condition : Sight → Option Test → Step (Option Cond)

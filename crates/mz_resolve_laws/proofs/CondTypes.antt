@@ -15,8 +15,9 @@ use Rattle.mz_plan.specs.declared.condition.Cond.TheVariants as cond
 use Rattle.mz_plan.specs.declared.condition.Operand.TheVariants as operand
 use Rattle.mz_resolution.specs.Columns.{SeenColumn, Sight, is_clear, known, may_mean, meant, only_one}
 use Rattle.mz_plan.specs.Types.{may_compare, same_type}
-use Rattle.mz_resolution.specs.Conditions.{compared, condition, join_by, joined, listed, tested, with_column, with_literal, with_side}
+use Rattle.mz_resolution.specs.Conditions.{compared, condition, listed, tested, with_column, with_literal, with_side}
 use Rattle.mz_plan.specs.WellFormed.{CondFits, IsTyped, SomeCondFits}
+use Rattle.mz_plan.proofs.ConditionRules.{fits_of_all, fits_of_any, fits_of_not}
 use Rattle.mz_resolve_laws.proofs.StepTools.{guard_ok, then_ok}
 
 -- ---- names of columns
@@ -54,28 +55,17 @@ same_type_same one other h = absurd cc
 
 -- ---- conditions in each of their forms
 
--- both
-fits_and : (types : List ColumnType) (first second : Cond) → CondFits types first → CondFits types second
-    → CondFits types (cond.And first second)
-unfolding Rattle.mz_plan.specs.declared.condition.Cond.TheBlock.hidden-the_row-Cond-0 denote.Hole.Carrier.hidden
-fits_and types first second h k = (h, k)
+-- each of a list
+fits_all : (types : List ColumnType) (conds : List Cond) → Each (CondFits types) conds → CondFits types (cond.All conds)
+fits_all types conds h = subst (λ T. T) (sym (fits_of_all types conds)) h
 
--- one of them
-fits_or : (types : List ColumnType) (first second : Cond) → CondFits types first → CondFits types second
-    → CondFits types (cond.Or first second)
-unfolding Rattle.mz_plan.specs.declared.condition.Cond.TheBlock.hidden-the_row-Cond-0 denote.Hole.Carrier.hidden
-fits_or types first second h k = (h, k)
+-- one of a list
+fits_any : (types : List ColumnType) (conds : List Cond) → Each (CondFits types) conds → CondFits types (cond.Any conds)
+fits_any types conds h = subst (λ T. T) (sym (fits_of_any types conds)) h
 
 -- not
 fits_not : (types : List ColumnType) (below : Cond) → CondFits types below → CondFits types (cond.Not below)
-unfolding Rattle.mz_plan.specs.declared.condition.Cond.TheBlock.hidden-the_row-Cond-0 denote.Hole.Carrier.hidden
-fits_not types below h = h
-
--- a list
-fits_join_by : (types : List ColumnType) (by_and : Bool) (first second : Cond) → CondFits types first → CondFits types second
-    → CondFits types (join_by by_and first second)
-fits_join_by types true first second h k = fits_and types first second h k
-fits_join_by types false first second h k = fits_or types first second h k
+fits_not types below h = subst (λ T. T) (sym (fits_of_not types below)) h
 
 -- ---- what is compared
 
@@ -117,29 +107,22 @@ mutual
   -- a condition
   tested_ok : (types : List ColumnType) (sight : Sight) → Each (SeesTyped types) sight.columns → (test : Test)
       → IfOk (tested sight test) (CondFits types)
-  tested_ok types sight h (All' shape tests) = listed_ok types sight h true tests
-  tested_ok types sight h (Any' shape tests) = listed_ok types sight h false tests
+  tested_ok types sight h (All' shape tests) =
+      then_ok (listed sight tests) _ (Each (CondFits types)) (CondFits types) (listed_ok types sight h tests) (fits_all types)
+  tested_ok types sight h (Any' shape tests) =
+      then_ok (listed sight tests) _ (Each (CondFits types)) (CondFits types) (listed_ok types sight h tests) (fits_any types)
   tested_ok types sight h (Not' place (more_of-Test test end_of-Test)) =
-      then_ok (tested sight test) _ (CondFits types) (CondFits types) (tested_ok types sight h test) (λ below fits. fits_not types below fits)
+      then_ok (tested sight test) _ (CondFits types) (CondFits types) (tested_ok types sight h test) (fits_not types)
   tested_ok types sight h (Compare column op right) = compared_ok types sight h column op right
 
-  -- a list
+  -- the conditions of a list of tests
   listed_ok : {m : _} (types : List ColumnType) (sight : Sight) → Each (SeesTyped types) sight.columns
-      → (by_and : Bool) (tests : Row_of-Test m) → IfOk (listed sight by_and tests) (CondFits types)
-  listed_ok types sight h by_and end_of-Test = tt
-  listed_ok types sight h by_and (more_of-Test test tests) =
-      then_ok (tested sight test) _ (CondFits types) (CondFits types) (tested_ok types sight h test)
-      (λ first fits. joined_ok types sight h by_and first tests fits)
-
-  -- others
-  joined_ok : {m : _} (types : List ColumnType) (sight : Sight) → Each (SeesTyped types) sight.columns
-      → (by_and : Bool) (first : Cond) (tests : Row_of-Test m) → CondFits types first
-      → IfOk (joined sight by_and first tests) (CondFits types)
-  joined_ok types sight h by_and first end_of-Test fits = fits
-  joined_ok types sight h by_and first (more_of-Test test tests) fits =
-      then_ok (tested sight test) _ (CondFits types) (CondFits types) (tested_ok types sight h test)
-      (λ second there. joined_ok types sight h by_and (join_by by_and first second) tests
-      (fits_join_by types by_and first second fits there))
+      → (tests : Row_of-Test m) → IfOk (listed sight tests) (Each (CondFits types))
+  listed_ok types sight h end_of-Test = tt
+  listed_ok types sight h (more_of-Test test tests) =
+      then_ok (tested sight test) _ (CondFits types) (Each (CondFits types)) (tested_ok types sight h test) (λ first here.
+      then_ok (listed sight tests) _ (Each (CondFits types)) (Each (CondFits types)) (listed_ok types sight h tests)
+      (λ others there. (here, there)))
 
 -- the condition behind WHERE
 pub condition_ok : (types : List ColumnType) (sight : Sight) → Each (SeesTyped types) sight.columns → (test : Option Test)

@@ -1,47 +1,42 @@
 -- What the condition of a test is in each form of the test, as code matches it.
-use Rattle.std.proofs.Common.{◌≡◌, refl, Bool, true, false, List, [], ◌∷◌, None, Some, Ok}
+use Rattle.std.proofs.Common.{◌≡◌, refl, List, [], ◌∷◌, Ok}
 use Rattle.mz_statement.specs.declared.condition.Test.{Test, All', Any'}
 use Rattle.mz_statement.specs.declared.condition.Test.TheVariants.{All, Any, Not}
 use Rattle.mz_plan.specs.declared.condition.Cond.{Cond}
 use Rattle.mz_plan.specs.declared.condition.Cond.TheVariants as cond
 use Rattle.mz_resolution.specs.Columns.{Sight}
-use Rattle.mz_resolution.specs.Conditions.{join_by, joined, tested}
-use Rattle.mz_resolution.specs.Steps.{Step, ◌>>=◌}
-use Rattle.mz_select.specs.Tests.{listed_tests}
+use Rattle.mz_resolution.specs.Conditions.{listed, tested}
+use Rattle.mz_resolution.specs.Steps.{Step, ◌>>=◌, each}
 
--- the conditions so far, joined with the tests of a list
-abbrev joined_with : Sight → Bool → Cond → Test → Step Cond
-joined_with sight by_and first (All' shape tests) = joined sight by_and first tests
-joined_with sight by_and first (Any' shape tests) = joined sight by_and first tests
-joined_with sight by_and first test = Ok first
+-- the conditions of the tests of a list
+abbrev listed_in : Sight → Test → Step (List Cond)
+listed_in sight (All' shape tests) = listed sight tests
+listed_in sight (Any' shape tests) = listed sight tests
+listed_in sight test = Ok []
 
 -- the same with the tests as a list, joined by AND
-joined_of_all : (sight : Sight) (by_and : Bool) (first : Cond) (tests : List Test) →
-    joined_with sight by_and first (All tests) ≡ listed_tests sight by_and (Some first) tests
+listed_of_all : (sight : Sight) (tests : List Test) → listed_in sight (All tests) ≡ each (tested sight) tests
 unfolding Rattle.mz_statement.specs.declared.condition.Test.TheBlock.hidden-the_row-Test-0 denote.Hole.Carrier.hidden
-joined_of_all sight by_and first [] = refl
-joined_of_all sight by_and first (test ∷ tests) =
-    λ i. tested sight test >>= λ second. joined_of_all sight by_and (join_by by_and first second) tests i
+listed_of_all sight [] = refl
+listed_of_all sight (test ∷ tests) = λ i. tested sight test >>= λ first. listed_of_all sight tests i >>= λ others. Ok (first ∷ others)
 
 -- and joined by OR
-joined_of_any : (sight : Sight) (by_and : Bool) (first : Cond) (tests : List Test) →
-    joined_with sight by_and first (Any tests) ≡ listed_tests sight by_and (Some first) tests
+listed_of_any : (sight : Sight) (tests : List Test) → listed_in sight (Any tests) ≡ each (tested sight) tests
 unfolding Rattle.mz_statement.specs.declared.condition.Test.TheBlock.hidden-the_row-Test-0 denote.Hole.Carrier.hidden
-joined_of_any sight by_and first [] = refl
-joined_of_any sight by_and first (test ∷ tests) =
-    λ i. tested sight test >>= λ second. joined_of_any sight by_and (join_by by_and first second) tests i
+listed_of_any sight [] = refl
+listed_of_any sight (test ∷ tests) = λ i. tested sight test >>= λ first. listed_of_any sight tests i >>= λ others. Ok (first ∷ others)
 
--- an AND is its tests' conditions joined by AND
-pub tested_of_all : (sight : Sight) (tests : List Test) → tested sight (All tests) ≡ listed_tests sight true None tests
+-- an AND is the list of its tests' conditions
+pub tested_of_all : (sight : Sight) (tests : List Test)
+    → tested sight (All tests) ≡ (each (tested sight) tests >>= λ conds. Ok (cond.All conds))
 unfolding Rattle.mz_statement.specs.declared.condition.Test.TheBlock.hidden-the_row-Test-0 denote.Hole.Carrier.hidden
-tested_of_all sight [] = refl
-tested_of_all sight (test ∷ tests) = λ i. tested sight test >>= λ first. joined_of_all sight true first tests i
+tested_of_all sight tests = λ i. listed_of_all sight tests i >>= λ conds. Ok (cond.All conds)
 
--- an OR is its tests' conditions joined by OR
-pub tested_of_any : (sight : Sight) (tests : List Test) → tested sight (Any tests) ≡ listed_tests sight false None tests
+-- and so is an OR
+pub tested_of_any : (sight : Sight) (tests : List Test)
+    → tested sight (Any tests) ≡ (each (tested sight) tests >>= λ conds. Ok (cond.Any conds))
 unfolding Rattle.mz_statement.specs.declared.condition.Test.TheBlock.hidden-the_row-Test-0 denote.Hole.Carrier.hidden
-tested_of_any sight [] = refl
-tested_of_any sight (test ∷ tests) = λ i. tested sight test >>= λ first. joined_of_any sight false first tests i
+tested_of_any sight tests = λ i. listed_of_any sight tests i >>= λ conds. Ok (cond.Any conds)
 
 -- a NOT is the negation of its test's condition
 pub tested_of_not : (sight : Sight) (test : Test) → tested sight (Not test) ≡ (tested sight test >>= λ below. Ok (cond.Not below))

@@ -1,19 +1,18 @@
 //! What conditions and equalities of JOINs compare, by places in place of names.
-ghost use Rattle.std.specs.Prelude.{◌≡◌, IfOk, None};
+ghost use Rattle.std.specs.Prelude.{◌≡◌};
 ghost use Rattle.mz_plan.specs.Types.{may_compare, same_type, type_of};
-ghost use Rattle.mz_resolution.specs.Conditions.{are_sides, compared, condition, equalities, equality, join_by, paired, tested, with_column, with_literal, with_side};
+ghost use Rattle.mz_resolution.specs.Conditions.{are_sides, compared, condition, equalities, equality, paired, tested, with_column, with_literal, with_side};
 ghost use Rattle.mz_resolution.specs.Steps.{each};
 ghost use Rattle.mz_select.specs.Gives.{Gives, Is};
-ghost use Rattle.mz_select.specs.Tests.{joined_all, joined_next, listed_tests};
 
 use crate::columns::{SeenColumn, Sight};
-use crate::faults::{wrong_column, wrong_nothing};
+use crate::faults::wrong_column;
 use mz_plan::{Cond, Operand, Pairs};
 use mz_refusal::CallFault;
 use mz_statement::{ColumnName, ColumnPair, ColumnType, Condition, Join, Op, Side, Test};
 use mz_value::{Datum, TryCopy};
-use sqlite_items::Boxed;
-use std::alloc::{AllocError, Global};
+use sqlite_items::{Boxed, Items};
+use std::alloc::Global;
 
 /// Whether two types are one. Takes no memory.
 pub fn same_type(one: ColumnType, other: ColumnType) -> bool
@@ -110,66 +109,28 @@ fn compared<'a>(
     with_side(alloc, sight, column, op, left, right)
 }
 
-// Two conditions joined by AND, or else by OR.
-fn join_by(alloc: Global, by_and: bool, first: Cond, second: Cond) -> Result<Cond, AllocError>
-    ensures { IfOk result (λ both. both ≡ join_by by_and first second) }
-{
-    let first = Boxed::new(alloc, first)?;
-    let second = Boxed::new(alloc, second)?;
-    if by_and {
-        Ok(Cond::And(first, second))
-    } else {
-        Ok(Cond::Or(first, second))
-    }
-}
-
-// The condition so far, where there is one, joined with the next by AND, or else by OR.
-fn joined(alloc: Global, by_and: bool, whole: Option<Cond>, next: Cond) -> Result<Cond, AllocError>
-    ensures { IfOk result (λ both. both ≡ joined_next by_and whole next) }
-{
-    match whole {
-        Some(first) => join_by(alloc, by_and, first, next),
-        None => Ok(next),
-    }
-}
-
-// The condition, where there is one. No list of tests is empty.
-fn found(alloc: Global, whole: Option<Cond>) -> Result<Cond, CallFault>
-    ensures { Is result (joined_all whole) }
-{
-    match whole {
-        Some(whole) => Ok(whole),
-        None => Err(CallFault::Refused(wrong_nothing(alloc))),
-    }
-}
-
-// The condition of a list of tests that are joined by AND, or else by OR.
+// The conditions of a list of tests, from the first.
 #[cycle(tested)]
-fn listed<'a>(
-    alloc: Global,
-    sight: &Sight<'a>,
-    by_and: bool,
-    tests: &[Test],
-) -> Result<Cond, CallFault>
-    ensures { Is result (listed_tests sight.now by_and None tests.now) }
+#[tactic(auto, using(crate::proofs::Fronts::fronts))]
+fn listed<'a>(alloc: Global, sight: &Sight<'a>, tests: &[Test]) -> Result<Items<Cond>, CallFault>
+    ensures { Is result (each (tested sight.now) tests.now) }
 {
-    let mut whole = None;
+    let mut found = Vec::with_capacity(alloc, tests.len())?;
     'tests: for test in tests {
-        let next = tested(alloc, sight, test)?;
-        whole = Some(joined(alloc, by_and, whole, next)?);
+        found.push(tested(alloc, sight, test)?)?;
     }
-    found(alloc, whole)
+    Ok(Items::from_vec(found))
 }
 
-// The condition of a test.
+// The condition of a test. A list is gone through by a loop.
 #[cycle(tested)]
 #[tactic(auto, using(crate::proofs::TestRules::tested_rules))]
 fn tested<'a>(alloc: Global, sight: &Sight<'a>, test: &Test) -> Result<Cond, CallFault>
     ensures { Is result (tested sight.now test.now) }
 {
     match test {
-        Test::All(tests) => listed(alloc, sight, true, tests.as_slice()),
-        Test::Any(tests) => listed(alloc, sight, false, tests.as_slice()),
+        Test::All(tests) => Ok(Cond::All(listed(alloc, sight, tests.as_slice())?)),
+        Test::Any(tests) => Ok(Cond::Any(listed(alloc, sight, tests.as_slice())?)),
         Test::Not(test) => {
             let below = tested(alloc, sight, test.get())?;
             Ok(Cond::Not(Boxed::new(alloc, below)?))

@@ -1,5 +1,5 @@
 //! The refusals of resolution, with their texts.
-ghost use Rattle.std.specs.Prelude.{◌≡◌, IfOk, [], codes, length, nat_le};
+ghost use Rattle.std.specs.Prelude.{◌≡◌, IfOk, codes, length, nat_le};
 ghost use Rattle.mz_resolution.specs.Columns.{column_text};
 ghost use Rattle.mz_resolution.specs.Queries.{most_columns};
 ghost use Rattle.mz_refusal.specs.declared.refusal.Limited.TheVariants.{Columns};
@@ -75,15 +75,6 @@ pub fn unknown_name(alloc: Global, name: &Name) -> Result<Refusal, AllocError>
     Ok(Refusal::UnknownName {
         name: name.try_copy(alloc)?,
     })
-}
-
-/// A list of tests is empty. Takes no memory.
-pub fn wrong_nothing(alloc: Global) -> Refusal
-    ensures { result ≡ WrongType [] }
-{
-    Refusal::WrongType {
-        name: Text::from_string(String::new(alloc)),
-    }
 }
 
 /// A part of a statement is of another kind or type than it is used as.

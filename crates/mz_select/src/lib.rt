@@ -13,6 +13,6 @@ pub use columns::{SeenColumn, Sight};
 pub use conditions::{condition, equalities, same_type, type_of};
 pub use faults::{
     MOST_COLUMNS, are_few, too_many_columns, unknown_column, unknown_name, wrong_column,
-    wrong_name, wrong_nothing, wrong_part,
+    wrong_name, wrong_part,
 };
 pub use listings::{keys_of, listing};
