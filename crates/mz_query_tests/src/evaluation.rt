@@ -12,7 +12,7 @@ use mz_plan::{
 };
 use mz_statement::{Column, ColumnType, Columns, Op};
 use mz_value::{Datum, Name, Row, Text, is_name};
-use sqlite_items::Boxed;
+use sqlite_items::{Boxed, Items};
 use std::alloc::{AllocError, Global};
 use std::process::Abort;
 use std::test::Fail;
@@ -35,22 +35,13 @@ fn holds(alloc: Global, cond: Cond) -> Result<bool, AllocError> {
     Ok(cond.holds(&row(alloc, 2, "b")?))
 }
 
-// The condition that the word is `a`, boxed.
-fn word_is_a(alloc: Global) -> Result<Boxed<Cond>, AllocError> {
+// `#0 < 3` and `#1 = 'a'`, of which the first holds.
+fn first_of_two(alloc: Global) -> Result<Items<Cond>, AllocError> {
     let literal = Operand::Literal(text(alloc, "a")?);
-    Boxed::new(alloc, Cond::Compare(1, Op::Eq, literal))
-}
-
-// `#0 < 3 AND #1 = 'a'`, of which the first holds.
-fn both(alloc: Global) -> Result<Cond, AllocError> {
-    let first = Boxed::new(alloc, number_is(Op::Lt, 3))?;
-    Ok(Cond::And(first, word_is_a(alloc)?))
-}
-
-// The same, joined by OR.
-fn either(alloc: Global) -> Result<Cond, AllocError> {
-    let first = Boxed::new(alloc, number_is(Op::Lt, 3))?;
-    Ok(Cond::Or(first, word_is_a(alloc)?))
+    let mut conds = Items::new(alloc);
+    conds.push(number_is(Op::Lt, 3))?;
+    conds.push(Cond::Compare(1, Op::Eq, literal))?;
+    Ok(conds)
 }
 
 #[test]
@@ -63,8 +54,11 @@ fn comparisons_are_as_by_hand(rt: HostRuntime) -> Result<(), Fail> {
 
 #[test]
 fn conditions_are_as_by_hand(rt: HostRuntime) -> Result<(), Fail> {
-    assert!(rt; !holds(rt.alloc(), both(rt.alloc())?)?);
-    assert!(rt; holds(rt.alloc(), either(rt.alloc())?)?);
+    let alloc = rt.alloc();
+    assert!(rt; !holds(alloc, Cond::All(first_of_two(alloc)?))?);
+    assert!(rt; holds(alloc, Cond::Any(first_of_two(alloc)?))?);
+    assert!(rt; holds(alloc, Cond::All(Items::new(alloc)))?);
+    assert!(rt; !holds(alloc, Cond::Any(Items::new(alloc)))?);
     Ok(())
 }
 

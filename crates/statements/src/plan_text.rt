@@ -76,23 +76,37 @@ fn push_aggregates(
     Ok(())
 }
 
-/// Writes a condition: columns by their places, parentheses round each AND and OR.
+// Writes conditions with a word between each two, nested from the left: an opening parenthesis for each
+// condition behind the first, and a closing one behind it.
+#[cycle(condition)]
+fn push_joined(
+    alloc: Global,
+    text: &mut String,
+    word: &str,
+    conds: &[Cond],
+) -> Result<(), AllocError> {
+    'openings: for _ in 1..conds.len() {
+        text.push_str("(")?;
+    }
+    'conds: for (place, cond) in conds.iter().enumerate() {
+        if place == 0 {
+            push_condition(alloc, text, cond)?;
+        } else {
+            text.push_str(word)?;
+            push_condition(alloc, text, cond)?;
+            text.push_str(")")?;
+        }
+    }
+    Ok(())
+}
+
+/// Writes a condition: columns by their places, parentheses round each two that are joined by AND or OR. A list is
+/// written by a loop, so calls nest as deep as lists and NOTs do.
+#[cycle(condition)]
 pub fn push_condition(alloc: Global, text: &mut String, cond: &Cond) -> Result<(), AllocError> {
     match cond {
-        Cond::And(first, second) => {
-            text.push_str("(")?;
-            push_condition(alloc, text, first.get())?;
-            text.push_str(" and ")?;
-            push_condition(alloc, text, second.get())?;
-            text.push_str(")")
-        }
-        Cond::Or(first, second) => {
-            text.push_str("(")?;
-            push_condition(alloc, text, first.get())?;
-            text.push_str(" or ")?;
-            push_condition(alloc, text, second.get())?;
-            text.push_str(")")
-        }
+        Cond::All(conds) => push_joined(alloc, text, " and ", conds.as_slice()),
+        Cond::Any(conds) => push_joined(alloc, text, " or ", conds.as_slice()),
         Cond::Not(below) => {
             text.push_str("not ")?;
             push_condition(alloc, text, below.get())
