@@ -1,8 +1,11 @@
 pub mod ConditionRules
+pub mod FirstRules
 pub mod IndexRules
 pub mod LeafRules
+pub mod OverRules
 pub mod PlanRules
 pub mod Products
+pub mod SpineRules
 pub mod SumRules
 pub mod TypeRules
 pub mod ValueRules

@@ -12,6 +12,7 @@ pub mod RowTypes
 pub mod Signs
 pub mod Small
 pub mod SmallTyped
+pub mod Spine
 pub mod Typed
 pub mod Types
 pub mod Value

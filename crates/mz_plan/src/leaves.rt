@@ -1,8 +1,10 @@
 //! The leaves of plans: the tables and indexes that they name by their numbers.
 ghost use Rattle.std.specs.Prelude.{◌≡◌, ◌++◌, IfOk, OnOk};
 ghost use Rattle.mz_plan.specs.Leaves.{leaves_of, new_number, renamed};
+ghost use Rattle.mz_plan.specs.Spine.{renamed_over};
 
 use crate::Plan;
+use crate::spine::spine;
 use sqlite_items::Boxed;
 use std::alloc::{AllocError, Global};
 
@@ -68,40 +70,58 @@ impl Plan {
         Ok(found)
     }
 
-    /// A copy of the plan in which each table and each index has the number that stands beside its own in the
-    /// first pair that begins with it. One that begins no pair keeps its number. Each leaf costs a walk over
-    /// the pairs.
+    // The plan's operator over another first plan, with what else is below it renamed.
     #[cycle(rename)]
-    #[tactic(auto, using(crate::proofs::LeafRules::renamed_rules))]
-    pub fn renamed(&self, alloc: Global, names: &[(u64, u64)]) -> Result<Plan, AllocError>
-        ensures { IfOk result (λ plan. plan ≡ renamed (new_number names.now) self.now) }
+    #[tactic(auto, using(crate::proofs::OverRules::over_rules))]
+    fn renamed_over(
+        &self,
+        alloc: Global,
+        first: Plan,
+        names: &[(u64, u64)],
+    ) -> Result<Plan, AllocError>
+        ensures { IfOk result (λ plan. plan ≡ renamed_over (new_number names.now) self.now first) }
     {
         match self {
             Plan::Table(item) => Ok(Plan::Table(new_number(names, *item))),
             Plan::Index(item) => Ok(Plan::Index(new_number(names, *item))),
-            Plan::Filter(below, cond) => {
-                let below = renamed_below(alloc, below, names)?;
+            Plan::Filter(_below, cond) => {
+                let below = Boxed::new(alloc, first)?;
                 Ok(Plan::Filter(below, cond.try_copy(alloc)?))
             }
-            Plan::Project(below, places) => {
-                let below = renamed_below(alloc, below, names)?;
+            Plan::Project(_below, places) => {
+                let below = Boxed::new(alloc, first)?;
                 Ok(Plan::Project(below, places.try_copy(alloc)?))
             }
-            Plan::Join(left, right, pairs) => {
-                let left = renamed_below(alloc, left, names)?;
+            Plan::Join(_left, right, pairs) => {
+                let left = Boxed::new(alloc, first)?;
                 let right = renamed_below(alloc, right, names)?;
                 Ok(Plan::Join(left, right, pairs.try_copy(alloc)?))
             }
-            Plan::Union(left, right) => {
-                let left = renamed_below(alloc, left, names)?;
+            Plan::Union(_left, right) => {
+                let left = Boxed::new(alloc, first)?;
                 Ok(Plan::Union(left, renamed_below(alloc, right, names)?))
             }
-            Plan::Group(below, places, aggregates) => {
-                let below = renamed_below(alloc, below, names)?;
+            Plan::Group(_below, places, aggregates) => {
+                let below = Boxed::new(alloc, first)?;
                 let places = places.try_copy(alloc)?;
                 Ok(Plan::Group(below, places, aggregates.try_copy(alloc)?))
             }
-            Plan::Distinct(below) => Ok(Plan::Distinct(renamed_below(alloc, below, names)?)),
+            Plan::Distinct(_below) => Ok(Plan::Distinct(Boxed::new(alloc, first)?)),
         }
+    }
+
+    /// A copy of the plan in which each table and each index has the number that stands beside its own in the
+    /// first pair that begins with it. One that begins no pair keeps its number. Each leaf costs a walk over
+    /// the pairs. It is made by a loop, from the end of the plan's spine.
+    #[cycle(rename)]
+    pub fn renamed(&self, alloc: Global, names: &[(u64, u64)]) -> Result<Plan, AllocError>
+        ensures { IfOk result (λ plan. plan ≡ renamed (new_number names.now) self.now) }
+    {
+        let mut spine = spine(alloc, self)?;
+        let mut made = Plan::Table(0);
+        'up: while let Some(plan) = spine.pop() {
+            made = plan.renamed_over(alloc, made, names)?;
+        }
+        Ok(made)
     }
 }

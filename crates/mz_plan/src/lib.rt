@@ -17,6 +17,7 @@ mod places;
 mod plan;
 mod resolved;
 mod scope;
+mod spine;
 mod tables;
 mod value;
 

@@ -1,12 +1,12 @@
 //! Plans: what a query asks for, as a tree of operators over tables and indexes.
-ghost use Rattle.std.specs.Prelude.{◌≡◌, IfOk};
+ghost use Rattle.std.specs.Prelude.{◌≡◌, IfOk, option_map};
+ghost use Rattle.mz_plan.specs.Spine.{first_of};
 
 use crate::{Aggregates, Cond, Pairs, Places};
 use sqlite_items::Boxed;
 use std::alloc::{AllocError, Global};
 
 /// A query over items that are named by their numbers. `specs/Meaning.antt` says what rows it gives.
-#[derive(Drop)]
 pub enum Plan {
     /// The rows of a table.
     Table(u64),
@@ -26,42 +26,52 @@ pub enum Plan {
     Distinct(Boxed<Plan>),
 }
 
-// A copy of the plan below an operator.
-#[cycle(copy)]
-fn copied_below(alloc: Global, plan: &Boxed<Plan>) -> Result<Boxed<Plan>, AllocError>
-    ensures { IfOk result (λ copy. copy ≡ plan.now) }
-{
-    Boxed::new(alloc, plan.get().try_copy(alloc)?)
+/// Lets a plan go by a loop along the first plans below it. What is to the right of them goes by itself, so
+/// calls nest as deep as joins and unions do to the right, and no deeper for what stands on them.
+impl Drop for Plan {
+    fn drop(mut self) {
+        'spine: loop {
+            match self {
+                Plan::Table(_) => return,
+                Plan::Index(_) => return,
+                Plan::Filter(below, _) => self = below.into_inner(),
+                Plan::Project(below, _) => self = below.into_inner(),
+                Plan::Join(left, right, _) => {
+                    let _right = right.into_inner();
+                    self = left.into_inner();
+                }
+                Plan::Union(left, right) => {
+                    let _right = right.into_inner();
+                    self = left.into_inner();
+                }
+                Plan::Group(below, _, _) => self = below.into_inner(),
+                Plan::Distinct(below) => self = below.into_inner(),
+            }
+        }
+    }
 }
 
 impl Plan {
-    /// A copy of the plan.
-    #[cycle(copy)]
+    /// The first plan below, where there is one. Takes no memory.
+    pub fn first(&self) -> Option<&Plan>
+        ensures { option_map (λ below. below.now) result ≡ first_of self.now }
+    {
+        match self {
+            Plan::Table(_) => None,
+            Plan::Index(_) => None,
+            Plan::Filter(below, _cond) => Some(below.get()),
+            Plan::Project(below, _places) => Some(below.get()),
+            Plan::Join(left, _right, _pairs) => Some(left.get()),
+            Plan::Union(left, _right) => Some(left.get()),
+            Plan::Group(below, _places, _aggregates) => Some(below.get()),
+            Plan::Distinct(below) => Some(below.get()),
+        }
+    }
+
+    /// A copy of the plan, made by a loop along the first plans below it.
     pub fn try_copy(&self, alloc: Global) -> Result<Plan, AllocError>
         ensures { IfOk result (λ copy. copy ≡ self.now) }
     {
-        Ok(match self {
-            Plan::Table(item) => Plan::Table(*item),
-            Plan::Index(item) => Plan::Index(*item),
-            Plan::Filter(plan, cond) => {
-                Plan::Filter(copied_below(alloc, plan)?, cond.try_copy(alloc)?)
-            }
-            Plan::Project(plan, places) => {
-                Plan::Project(copied_below(alloc, plan)?, places.try_copy(alloc)?)
-            }
-            Plan::Join(left, right, pairs) => {
-                let left = copied_below(alloc, left)?;
-                Plan::Join(left, copied_below(alloc, right)?, pairs.try_copy(alloc)?)
-            }
-            Plan::Union(left, right) => {
-                let left = copied_below(alloc, left)?;
-                Plan::Union(left, copied_below(alloc, right)?)
-            }
-            Plan::Group(plan, places, aggregates) => {
-                let plan = copied_below(alloc, plan)?;
-                Plan::Group(plan, places.try_copy(alloc)?, aggregates.try_copy(alloc)?)
-            }
-            Plan::Distinct(plan) => Plan::Distinct(copied_below(alloc, plan)?),
-        })
+        self.renamed(alloc, &[])
     }
 }
