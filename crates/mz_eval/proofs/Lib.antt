@@ -1,5 +1,6 @@
+pub mod ColumnRules
 pub mod FoundForms
 pub mod FoundRules
 pub mod JoinMass
-pub mod PlanMeasure
+pub mod NodeRules
 pub mod RowsRules

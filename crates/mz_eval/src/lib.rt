@@ -6,6 +6,7 @@
 
 mod bounded;
 mod evaluation;
+mod nodes;
 mod rows;
 mod typing;
 

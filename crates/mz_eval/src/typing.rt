@@ -1,8 +1,11 @@
 //! The columns of a plan.
-ghost use Rattle.std.specs.Prelude.{◌≡◌, ◌++◌, List, true, slice_get, filter_map, IfOk, OnOk};
+ghost use Rattle.std.specs.Prelude.{◌≡◌, ◌++◌, List, true, slice_get, filter_map, IfOk};
 ghost use Rattle.mz_value.specs.Name.{is_name};
+ghost use Rattle.mz_plan.specs.Spine.{first_of};
 ghost use Rattle.mz_plan.specs.Typed.{aggregate_column, columns_at, item_columns, kind_columns, own_columns, plan_columns, relation_columns, renamed};
+ghost use Rattle.mz_eval.specs.Columns.{AreColumnsBelow};
 
+use crate::nodes::nodes;
 use mz_plan::{Aggregate, Item, ItemKind, Plan, Scope};
 use mz_statement::{Column, ColumnType, Columns};
 use mz_value::{Name, TryCopy};
@@ -120,14 +123,15 @@ fn aggregate_column(
     }
 }
 
-// Puts columns behind others.
-fn push_all(columns: &mut Vec<Column>, more: Vec<Column>) -> Result<(), AllocError>
-    ensures { OnOk result (columns.new.items ≡ columns.old.items ++ more.items) }
+// The columns of both sides.
+fn joined(left: Vec<Column>, right: Vec<Column>) -> Result<Vec<Column>, AllocError>
+    ensures { IfOk result (λ columns. columns.items ≡ left.items ++ right.items) }
 {
-    'more: for column in more {
+    let mut columns = left;
+    'right: for column in right {
         columns.push(column)?;
     }
-    Ok(())
+    Ok(columns)
 }
 
 // The columns of a group: its keys, and then its aggregates.
@@ -149,32 +153,46 @@ fn group_columns(
     Ok(all)
 }
 
-// The columns of a plan over some items.
+// The columns of a plan over some items, from those of the plan below it.
+#[cycle(columns)]
 #[tactic(auto, using(mz_plan::proofs::TypeRules::column_rules))]
-fn plan_columns(alloc: Global, plan: &Plan, items: &[Item]) -> Result<Vec<Column>, AllocError>
-    ensures { IfOk result (λ columns. columns.items ≡ plan_columns items.now plan.now) }
+fn columns_over(
+    alloc: Global,
+    plan: &Plan,
+    items: &[Item],
+    columns: Vec<Column>,
+) -> Result<Vec<Column>, AllocError>
+    requires { AreColumnsBelow items.now (first_of plan.now) columns.items }
+    ensures { IfOk result (λ all. all.items ≡ plan_columns items.now plan.now) }
 {
     match plan {
         Plan::Table(id) => item_columns(alloc, items, *id),
         Plan::Index(id) => item_columns(alloc, items, *id),
-        Plan::Filter(below, _cond) => plan_columns(alloc, below.get(), items),
-        Plan::Project(below, places) => {
-            let columns = plan_columns(alloc, below.get(), items)?;
-            columns_at(alloc, &columns, places.as_slice())
-        }
-        Plan::Join(left, right, _pairs) => {
-            let mut columns = plan_columns(alloc, left.get(), items)?;
+        Plan::Filter(_below, _cond) => Ok(columns),
+        Plan::Project(_below, places) => columns_at(alloc, &columns, places.as_slice()),
+        Plan::Join(_left, right, _pairs) => {
             let more = plan_columns(alloc, right.get(), items)?;
-            push_all(&mut columns, more)?;
-            Ok(columns)
+            joined(columns, more)
         }
-        Plan::Union(left, _right) => plan_columns(alloc, left.get(), items),
-        Plan::Group(below, places, aggregates) => {
-            let columns = plan_columns(alloc, below.get(), items)?;
+        Plan::Union(_left, _right) => Ok(columns),
+        Plan::Group(_below, places, aggregates) => {
             group_columns(alloc, &columns, places.as_slice(), aggregates.as_slice())
         }
-        Plan::Distinct(below) => plan_columns(alloc, below.get(), items),
+        Plan::Distinct(_below) => Ok(columns),
     }
+}
+
+// The columns of a plan over some items, from those of the last plan below it up.
+#[cycle(columns)]
+fn plan_columns(alloc: Global, plan: &Plan, items: &[Item]) -> Result<Vec<Column>, AllocError>
+    ensures { IfOk result (λ columns. columns.items ≡ plan_columns items.now plan.now) }
+{
+    let mut nodes = nodes(alloc, plan, &[])?;
+    let mut columns = Vec::new(alloc);
+    'up: while let Some(node) = nodes.pop() {
+        columns = columns_over(alloc, node.0, items, columns)?;
+    }
+    Ok(columns)
 }
 
 /// The columns of a plan in a scope, with their names and types. A table's column keeps its name, and that of an
