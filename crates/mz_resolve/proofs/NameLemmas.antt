@@ -1,5 +1,5 @@
 -- What a name stands for in a catalog: its item, whose own names are those of older items.
-use Rattle.std.proofs.Common.{◌≡◌, ◌≢◌, ℕ, zero, suc, ◌<◌, ◌≤◌, ◌==◌, Bool, true, false, ◌&&◌, cond, List, [], ◌∷◌, ◌++◌, reverse, Option, None, Some, Err, find, filter, bytes_eq, nat_lt, refl, sym, ap, subst, ◌∙◌, arith}
+use Rattle.std.proofs.Common.{◌≡◌, ◌≢◌, ℕ, zero, suc, ◌<◌, ◌≤◌, Bool, true, false, cond, List, [], ◌∷◌, ◌++◌, reverse, Option, None, Some, Err, find, filter, bytes_eq, nat_lt, refl, sym, ap, subst, ◌∙◌, arith}
 use Rattle.std.specs.Prelude.{⊤}
 use Rattle.std.specs.List.{All, AllPairs, AllByRecursion as Each}
 use Rattle.std.specs.Option.{option_map, option_or, IfSome}
@@ -9,8 +9,6 @@ use Rattle.std.proofs.lemmas.List.Elements.{filter-append}
 use Rattle.std.proofs.lemmas.List.Folds.{find-append}
 use Rattle.std.proofs.lemmas.Slice.Eq.{bytes_eq-Decides}
 use Rattle.mz_plan.specs.declared.item.Item.{Item}
-use Rattle.mz_plan.specs.declared.item.ItemKind.{ItemKind}
-use Rattle.mz_plan.specs.declared.item.ItemKind.TheVariants.{Table, View, Index}
 use Rattle.mz_refusal.specs.declared.refusal.Refusal.TheVariants.{UnknownName}
 use Rattle.mz_plan.specs.declared.scope.Scope.{Scope}
 use Rattle.mz_plan.specs.Items.{Ascend, numbered}
@@ -29,7 +27,7 @@ abbrev Falls : List Item → Type 0
 Falls [] = ⊤
 Falls (item ∷ items) = Each (λ later. later.id < item.id) items × Falls items
 
-each_of : (P : Item → Type 0) (items : List Item) → All P items → Each P items
+pub each_of : (P : Item → Type 0) (items : List Item) → All P items → Each P items
 each_of P [] all = tt
 each_of P (item ∷ items) all = (all zero item (omega arith), each_of P items (λ k d within. all (suc k) d (omega arith)))
 
@@ -86,7 +84,7 @@ below_first below item items not_below =
     apart a b le = grind arith
 
 -- what is found is one of the items
-found_each : (P : Item → Type 0) (test : Item → Bool) (items : List Item) → Each P items → IfSome (find test items) P
+pub found_each : (P : Item → Type 0) (test : Item → Bool) (items : List Item) → Each P items → IfSome (find test items) P
 found_each P test [] each = tt
 found_each P test (item ∷ items) each = by (test item) (found_each P test items each.1)
   where

@@ -1,2 +1,5 @@
 pub mod InCatalog
+pub mod Known
 pub mod Parts
+pub mod Unknown
+pub mod Waiting

@@ -5,8 +5,11 @@
 #![tactic(auto)]
 
 mod commands;
+mod known;
+mod lookups;
 mod plans;
 mod queries;
+mod reached;
 mod relations;
 mod statements;
 

@@ -6,7 +6,7 @@ ghost use Rattle.mz_resolve.specs.InCatalog.{scope_in};
 ghost use Rattle.mz_statement.specs.declared.statement.Statement.TheVariants as the;
 
 use crate::commands::{delete, drop_index, drop_table, drop_view, insert};
-use crate::relations::{named, queried};
+use crate::reached::{named, queried};
 use mz_catalog::Catalog;
 use mz_plan::{Plan, Resolved};
 use mz_refusal::{CallFault, Refusal};

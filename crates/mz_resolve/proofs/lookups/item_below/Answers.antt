@@ -1,8 +1,9 @@
-use Rattle.std.proofs.Common.{sym, subst, ◌<◌, ◌∙◌, arith}
+use Rattle.std.proofs.Common.{◌≡◌, Some, sym, subst, ◌<◌, ◌∙◌, arith}
+use Rattle.mz_plan.specs.Items.{numbered}
 use Rattle.mz_catalog.proofs.ItemLemmas.{id-numbered}
 use Rattle.mz_resolve.proofs.NameLemmas.{found_above, found_below, found_nowhere}
-use Rattle.mz_resolve.proofs.relations.item_below.Goals.{in_default-via-in-Some+else-id-below, in_default-via-in_default}
-use Rattle.mz_resolve.proofs.relations.item_below.Goals as goal
+use Rattle.mz_resolve.proofs.lookups.item_below.Goals.{in_default-via-in-Some+else-id-below, in_default-via-in_default}
+use Rattle.mz_resolve.proofs.lookups.item_below.Goals as goal
 
 -- the name finds it
 pub returns-in-Some-clause-item : goal.returns-in-Some-clause-item
@@ -15,6 +16,12 @@ pub returns-in-Some-clause-below : goal.returns-in-Some-clause-below
 returns-in-Some-clause-below c =
     subst (λ id. id < c.args.below) (sym (id-numbered c.in-Some.id c.args.catalog.now.items c.item.result.now c.item.ensures.item))
     c.if-id-below.true
+
+-- so it is there under its own number
+pub returns-in-Some-clause-there : goal.returns-in-Some-clause-there
+returns-in-Some-clause-there c =
+    subst (λ id. numbered id c.args.catalog.now.items ≡ Some c.item.result.now)
+    (sym (id-numbered c.in-Some.id c.args.catalog.now.items c.item.result.now c.item.ensures.item)) c.item.ensures.item
 
 -- the name finds none, or one that is not below
 pub returns-in_default-clause-item : goal.returns-in_default-clause-item
