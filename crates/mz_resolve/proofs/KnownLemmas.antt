@@ -70,11 +70,10 @@ pub true_none : (catalog : CatalogState) (cluster : ℕ) (known : Known) → kno
 true_none catalog cluster known none = subst (IsTrueOf catalog cluster) (sym none) (record { entries = tt })
 
 -- an item is kept with what it stands for
-pub true_push : (catalog : CatalogState) (cluster : ℕ) (known : Known) (item : Item) → IsTrueOf catalog cluster known
-    → numbered item.id catalog.items ≡ Some item → IsTrueOf catalog cluster (known ++ (item.id, stands_for catalog cluster item) ∷ [])
-true_push catalog cluster known item holds there = record {
-  entries = each_push (λ entry. stands_at catalog cluster entry.0 ≡ Some entry.1) known (item.id, stands_for catalog cluster item)
-      holds.entries (ap (option_map (stands_for catalog cluster)) there);
+pub true_push : (catalog : CatalogState) (cluster : ℕ) (known : Known) (id : ℕ) (kept : Step NamedRelation) → IsTrueOf catalog cluster known
+    → stands_at catalog cluster id ≡ Some kept → IsTrueOf catalog cluster (known ++ (id, kept) ∷ [])
+true_push catalog cluster known id kept holds stands = record {
+  entries = each_push (λ entry. stands_at catalog cluster entry.0 ≡ Some entry.1) known (id, kept) holds.entries stands;
 }
 
 -- what is kept under a number is what its item stands for

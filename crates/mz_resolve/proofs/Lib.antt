@@ -1,4 +1,6 @@
+pub mod ClimbLemmas
 pub mod KnownLemmas
+pub mod LoneLemmas
 pub mod NameLemmas
 pub mod PartsOfSelect
 pub mod PathLemmas

@@ -23,7 +23,7 @@ abbrev by_parts : Referred → List Referred → Select → Parts → Step Relat
 by_parts first others select parts = narrow (whole_of first others select parts)
 
 -- steps in a row are one step
-steps_assoc : {A B C : Type 0} (step : Step A) (next : A → Step B) (last : B → Step C)
+pub steps_assoc : {A B C : Type 0} (step : Step A) (next : A → Step B) (last : B → Step C)
     → ((step >>= next) >>= last) ≡ (step >>= λ x. next x >>= last)
 steps_assoc (Ok x) next last = refl
 steps_assoc (Err refusal) next last = refl

@@ -1,6 +1,6 @@
 -- Items that wait, one for the other, and how much is left to be done for them.
 use Rattle.std.proofs.Common.{◌≡◌, ℕ, ◌+◌, ◌*◌, ◌<◌, ◌≤◌, ◌==◌, Bool, true, false, ◌||◌, cond, List, [], ◌∷◌, ◌++◌, inl, inr, Option, None, Some, nat_eq, refl, sym, ap, subst, ◌∙◌, true≢false, arith}
-use Rattle.std.specs.Prelude.{⊤, IsSome}
+use Rattle.std.specs.Prelude.{IsSome}
 use Rattle.std.specs.List.{AllByRecursion as Each}
 use Rattle.std.specs.Option.{IfSome}
 use Rattle.std.proofs.Math.Nat.{add-mul}
@@ -12,28 +12,23 @@ use Rattle.mz_catalog.specs.CatalogState.{CatalogState, IsCatalog}
 use Rattle.mz_catalog.proofs.ItemLemmas.{id-numbered}
 use Rattle.mz_resolution.specs.Steps.{Step}
 use Rattle.mz_resolution.specs.declared.relation.NamedRelation.{NamedRelation}
-use Rattle.mz_resolve.specs.Known.{IsTrueOf, Keeps, Known, is_known, stands_for}
-use Rattle.mz_resolve.specs.Waiting.{IsWaiting, Steps}
+use Rattle.mz_resolve.specs.Known.{IsTrueOf, Keeps, Known, is_known}
+use Rattle.mz_resolve.specs.Waiting.{IsPath, IsWaiting, Steps}
 use Rattle.mz_resolve.proofs.KnownLemmas.{keeps_both, keeps_push, keeps_same, known_here, known_push, true_push}
 use Rattle.mz_resolve.proofs.NameLemmas.{each_of, found_each}
 
 -- ---- what waits
-
--- items wait, each for those behind it, which are older
-abbrev pub IsPath : Known → List Item → List ℕ → Type 0
-IsPath known items [] = ⊤
-IsPath known items (id ∷ later) = IsWaiting known items id × Each (λ older. older < id) later × IsPath known items later
 
 -- the item is known, or it waits before all others
 abbrev pub Leads : ℕ → Known → List ℕ → Type 0
 Leads item known [] = is_known known item ≡ true
 Leads item known (first ∷ later) = first ≡ item
 
--- the last one waits too
-pub last_waits : (known : Known) (items : List Item) (waiting : List ℕ) (id : ℕ) → IsPath known items (waiting ++ id ∷ [])
+-- each one of them waits
+pub last_waits : (known : Known) (items : List Item) (waiting : List ℕ) (id : ℕ) (later : List ℕ) → IsPath known items (waiting ++ id ∷ later)
     → IsWaiting known items id
-last_waits known items [] id path = path.0
-last_waits known items (first ∷ later) id path = last_waits known items later id path.2
+last_waits known items [] id later path = path.0
+last_waits known items (first ∷ waiting) id later path = last_waits known items waiting id later path.2
 
 -- one more is below what the last one is below
 each_waits : (first : ℕ) (waiting : List ℕ) (id older : ℕ) → older < id → Each (λ n. n < first) (waiting ++ id ∷ [])
@@ -47,13 +42,14 @@ path_waits known items [] id older below waits path = (path.0, (below, tt), (wai
 path_waits known items (first ∷ later) id older below waits path =
     (path.0, each_waits first later id older below path.1, path_waits known items later id older below waits path.2)
 
-each_front : (first : ℕ) (waiting : List ℕ) (id : ℕ) → Each (λ n. n < first) (waiting ++ id ∷ []) → Each (λ n. n < first) waiting
-each_front first [] id each = tt
-each_front first (next ∷ later) id each = (each.0, each_front first later id each.1)
+-- what holds of all numbers holds of the first ones, and of the one behind these
+pub each_front : (P : ℕ → Type 0) (front later : List ℕ) → Each P (front ++ later) → Each P front
+each_front P [] later each = tt
+each_front P (next ∷ front) later each = (each.0, each_front P front later each.1)
 
-each_last : (first : ℕ) (waiting : List ℕ) (id : ℕ) → Each (λ n. n < first) (waiting ++ id ∷ []) → id < first
-each_last first [] id each = each.0
-each_last first (next ∷ later) id each = each_last first later id each.1
+pub each_last : (P : ℕ → Type 0) (front : List ℕ) (id : ℕ) (later : List ℕ) → Each P (front ++ id ∷ later) → P id
+each_last P [] id later each = each.0
+each_last P (next ∷ front) id later each = each_last P front id later each.1
 
 -- an item above one that is known now waits on
 still_waits : (known : Known) (items : List Item) (id : ℕ) (kept : Step NamedRelation) (first : ℕ) → id < first
@@ -63,13 +59,13 @@ still_waits known items id kept first above waits = record {
   unknown = known_push known id kept first ∙ ap (λ b. b || nat_eq first id) waits.unknown ∙ ne_eqb first id (λ same. omega (arith, above, same));
 }
 
-path_learns : (known : Known) (items : List Item) (waiting : List ℕ) (id : ℕ) (kept : Step NamedRelation)
-    → IsPath known items (waiting ++ id ∷ []) → IsPath (known ++ (id, kept) ∷ []) items waiting
-path_learns known items [] id kept path = tt
-path_learns known items (first ∷ later) id kept path = (
-  still_waits known items id kept first (each_last first later id path.1) path.0,
-  each_front first later id path.1,
-  path_learns known items later id kept path.2,
+path_learns : (known : Known) (items : List Item) (waiting : List ℕ) (id : ℕ) (later : List ℕ) (kept : Step NamedRelation)
+    → IsPath known items (waiting ++ id ∷ later) → IsPath (known ++ (id, kept) ∷ []) items waiting
+path_learns known items [] id later kept path = tt
+path_learns known items (first ∷ waiting) id later kept path = (
+  still_waits known items id kept first (each_last (λ older. older < first) waiting id later path.1) path.0,
+  each_front (λ older. older < first) waiting (id ∷ later) path.1,
+  path_learns known items waiting id later kept path.2,
 )
 
 leads_waits : (item : ℕ) (known : Known) (waiting : List ℕ) (id older : ℕ) → Leads item known (waiting ++ id ∷ [])
@@ -77,10 +73,10 @@ leads_waits : (item : ℕ) (known : Known) (waiting : List ℕ) (id older : ℕ)
 leads_waits item known [] id older leads = leads
 leads_waits item known (first ∷ later) id older leads = leads
 
-leads_learns : (item : ℕ) (known known' : Known) (waiting : List ℕ) (id : ℕ) → is_known known' id ≡ true
-    → Leads item known (waiting ++ id ∷ []) → Leads item known' waiting
-leads_learns item known known' [] id is leads = subst (λ n. is_known known' n ≡ true) leads is
-leads_learns item known known' (first ∷ later) id is leads = leads
+leads_learns : (item : ℕ) (known known' : Known) (waiting : List ℕ) (id : ℕ) (later : List ℕ) → is_known known' id ≡ true
+    → Leads item known (waiting ++ id ∷ later) → Leads item known' waiting
+leads_learns item known known' [] id later is leads = subst (λ n. is_known known' n ≡ true) leads is
+leads_learns item known known' (first ∷ waiting) id later is leads = leads
 
 -- ---- what is left
 
@@ -200,20 +196,17 @@ under_way_next catalog cluster item first known known' waiting waiting' id befor
       leads = leads_waits item known waiting id step.older before.leads;
     }))
 under_way_next catalog cluster item first known known' waiting waiting' id before (inr step) =
-    let found = step.item in
-    let kept = stands_for catalog cluster found in
-    let same : found.id ≡ id = id-numbered id catalog.items found step.there in
-    let there : numbered found.id catalog.items ≡ Some found =
-    subst (λ n. numbered n catalog.items ≡ Some found) (sym same) step.there in
-    let here : IsUnderWay catalog cluster item first known (waiting ++ found.id ∷ []) =
-    subst (λ n. IsUnderWay catalog cluster item first known (waiting ++ n ∷ [])) (sym same) before in
-    subst (λ k. IsUnderWay catalog cluster item first k waiting') (sym step.known_is)
-    (subst (IsUnderWay catalog cluster item first (known ++ (found.id, kept) ∷ [])) (sym step.waiting_is) (record {
-      holds = true_push catalog cluster known found here.holds there;
-      keeps = keeps_both first known (known ++ (found.id, kept) ∷ []) here.keeps (keeps_push known found.id kept);
-      path = path_learns known catalog.items waiting found.id kept here.path;
-      leads = leads_learns item known (known ++ (found.id, kept) ∷ []) waiting found.id (known_here known found.id kept) here.leads;
-    }))
+    let top = step.top in
+    let kept = step.kept in
+    let skipped = step.climbs.skipped in
+    let here : IsUnderWay catalog cluster item first known (waiting' ++ top ∷ skipped) =
+    subst (IsUnderWay catalog cluster item first known) step.climbs.waiting_is before in
+    subst (λ k. IsUnderWay catalog cluster item first k waiting') (sym step.known_is) (record {
+      holds = true_push catalog cluster known top kept here.holds step.climbs.stands;
+      keeps = keeps_both first known (known ++ (top, kept) ∷ []) here.keeps (keeps_push known top kept);
+      path = path_learns known catalog.items waiting' top skipped kept here.path;
+      leads = leads_learns item known (known ++ (top, kept) ∷ []) waiting' top skipped (known_here known top kept) here.leads;
+    })
 
 -- each step leaves less to be done
 pub left_falls : (catalog : CatalogState) (cluster : ℕ) (known known' : Known) (waiting waiting' : List ℕ) (id : ℕ) → IsCatalog catalog
@@ -226,17 +219,15 @@ left_falls catalog cluster known known' waiting waiting' id is path (inl step) =
     (last_of 0 (waiting ++ id ∷ step.older ∷ [])) (last_of 0 (waiting ++ id ∷ []))
     (omega (arith, last_one 0 waiting id, last_two 0 waiting id step.older, step.below))))
 left_falls catalog cluster known known' waiting waiting' id is path (inr step) =
-    let found = step.item in
-    let kept = stands_for catalog cluster found in
-    let same : found.id ≡ id = id-numbered id catalog.items found step.there in
-    let here : IsPath known catalog.items (waiting ++ found.id ∷ []) =
-    subst (λ n. IsPath known catalog.items (waiting ++ n ∷ [])) (sym same) path in
-    let waits = last_waits known catalog.items waiting found.id here in
-    let under = under_next catalog found.id is waits.there in
+    let top = step.top in
+    let kept = step.kept in
+    let skipped = step.climbs.skipped in
+    let here : IsPath known catalog.items (waiting' ++ top ∷ skipped) = subst (IsPath known catalog.items) step.climbs.waiting_is path in
+    let waits = last_waits known catalog.items waiting' top skipped here in
+    let under = under_next catalog top is waits.there in
     subst (λ k. left catalog k waiting' < left catalog known (waiting ++ id ∷ [])) (sym step.known_is)
-    (subst (λ w. left catalog (known ++ (found.id, kept) ∷ []) w < left catalog known (waiting ++ id ∷ [])) (sym step.waiting_is)
-    (less_by_items (unknowns (known ++ (found.id, kept) ∷ []) catalog.items) (unknowns known catalog.items) catalog.next
-    (last_of 0 waiting) (last_of 0 (waiting ++ id ∷ []))
-    (one_fewer known found.id kept catalog.items waits.there waits.unknown)
-    (last_under catalog (known ++ (found.id, kept) ∷ []) waiting 0 is (omega (arith, under))
-    (path_learns known catalog.items waiting found.id kept here))))
+    (less_by_items (unknowns (known ++ (top, kept) ∷ []) catalog.items) (unknowns known catalog.items) catalog.next
+    (last_of 0 waiting') (last_of 0 (waiting ++ id ∷ []))
+    (one_fewer known top kept catalog.items waits.there waits.unknown)
+    (last_under catalog (known ++ (top, kept) ∷ []) waiting' 0 is (omega (arith, under))
+    (path_learns known catalog.items waiting' top skipped kept here)))

@@ -2,6 +2,8 @@
 ghost use Rattle.std.specs.Prelude.{◌≡◌, ◌<◌, ◌∷◌, ◌++◌, [], true, false, None, Some, nat_eq, map, IfOk, OnOk, OnErr, IfSome};
 ghost use Rattle.std.specs.Map.{lookup};
 ghost use Rattle.mz_plan.specs.Items.{references};
+ghost use Rattle.mz_resolution.specs.Steps.{Step};
+ghost use Rattle.mz_resolution.specs.declared.relation.NamedRelation.{NamedRelation};
 ghost use Rattle.mz_select.specs.Gives.{Is};
 ghost use Rattle.mz_resolve.specs.Known.{is_known};
 ghost use Rattle.mz_resolve.specs.Unknown.{unknown_in, unknown_named, unknown_of};
@@ -16,8 +18,11 @@ use mz_statement::{Join, Select};
 use mz_value::Name;
 use std::alloc::{AllocError, Global};
 
-/// Under the number of an item what it stands for, or its first refusal.
-pub type Known = IndexMap<u64, Result<NamedRelation, Refusal>>;
+/// What is kept of an item: what it stands for, or its first refusal.
+pub type Kept = Result<NamedRelation, Refusal>;
+
+/// Under the number of an item what is kept of it.
+pub type Known = IndexMap<u64, Kept>;
 
 // Whether the item of this number is known. O(1) expected.
 fn is_known(known: &Known, id: u64) -> bool
@@ -48,12 +53,24 @@ fn copied_named(alloc: Global, named: &NamedRelation) -> Result<NamedRelation, A
 }
 
 // What is kept of an item, copied.
-fn copied(alloc: Global, kept: &Result<NamedRelation, Refusal>) -> Result<NamedRelation, CallFault>
+fn copied(alloc: Global, kept: &Kept) -> Result<NamedRelation, CallFault>
     ensures { Is result kept.now }
 {
     match kept {
         Ok(named) => Ok(copied_named(alloc, named)?),
         Err(refusal) => Err(CallFault::Refused(refusal.try_copy(alloc)?)),
+    }
+}
+
+/// What was resolved, as it is kept. Want of memory is not.
+pub fn kept_of(resolved: Result<NamedRelation, CallFault>) -> Result<Kept, AllocError>
+    ensures { (step : Step NamedRelation) → Is resolved step
+        → IfOk result (λ kept. kept ≡ step) }
+{
+    match resolved {
+        Ok(found) => Ok(Ok(found)),
+        Err(CallFault::Refused(refusal)) => Ok(Err(refusal)),
+        Err(CallFault::Memory) => Err(AllocError),
     }
 }
 
@@ -69,11 +86,7 @@ pub fn known_at(alloc: Global, known: &Known, id: u64) -> Result<NamedRelation, 
 }
 
 /// Keeps what an item stands for, of which nothing is known. O(1) expected.
-pub fn keep(
-    known: &mut Known,
-    id: u64,
-    kept: Result<NamedRelation, Refusal>,
-) -> Result<(), AllocError>
+pub fn keep(known: &mut Known, id: u64, kept: Kept) -> Result<(), AllocError>
     requires { is_known known.old.entries id ≡ false }
     ensures ok { OnOk result (known.new.entries ≡ known.old.entries ++ (id, kept) ∷ []) }
     ensures err { OnErr result (known.new.entries ≡ known.old.entries) }

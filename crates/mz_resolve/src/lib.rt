@@ -6,12 +6,14 @@
 
 mod commands;
 mod known;
+mod lone;
 mod lookups;
 mod plans;
 mod queries;
 mod reached;
 mod relations;
 mod statements;
+mod wanted;
 
 pub use mz_select::MOST_COLUMNS;
 pub use statements::resolve;

@@ -1,19 +1,21 @@
 //! Names and queries resolved: each item that they reach, through views, once, the oldest first.
-ghost use Rattle.std.specs.Prelude.{◌≡◌, ◌∷◌, ◌++◌, [], true, false, None, map, OnOk, OnErr};
+ghost use Rattle.std.specs.Prelude.{◌≡◌, ◌∷◌, ◌++◌, [], true, None, Some, map, OnOk, OnErr};
 ghost use Rattle.mz_catalog.specs.CatalogState.{IsCatalog};
-ghost use Rattle.mz_plan.specs.Items.{references};
+ghost use Rattle.mz_plan.specs.Items.{numbered, references};
 ghost use Rattle.mz_resolution.specs.Queries.{queried};
 ghost use Rattle.mz_resolution.specs.Resolution.{named};
 ghost use Rattle.mz_select.specs.Gives.{Is};
 ghost use Rattle.mz_resolve.specs.InCatalog.{items_below, names_below, scope_in};
-ghost use Rattle.mz_resolve.specs.Known.{IsTrueOf, Keeps, is_known, stands_for};
+ghost use Rattle.mz_resolve.specs.Known.{IsTrueOf, Keeps, is_known};
 ghost use Rattle.mz_resolve.specs.Unknown.{selects_of, unknown_in, unknown_named, unknown_of};
-ghost use Rattle.mz_resolve.specs.Waiting.{IsWaiting, Steps};
+ghost use Rattle.mz_resolve.specs.Waiting.{IsPath, IsWaiting, Learns, Steps};
 
-use crate::known::{Known, keep, unknown_in, unknown_named};
+use crate::known::{Known, keep, kept_of, unknown_in, unknown_named};
+use crate::lone::climb;
 use crate::lookups::selects_of;
 use crate::relations::{item_relation, named_by, queried_by};
-use indexmap::IndexMap;
+use crate::wanted::{Wanted, wanted_by};
+use indexmap::{IndexMap, IndexSet};
 use mz_catalog::Catalog;
 use mz_plan::Item;
 use mz_refusal::CallFault;
@@ -31,27 +33,30 @@ fn wait_for(waiting: &mut Vec<u64>, id: u64, older: u64) -> Result<(), AllocErro
     Ok(())
 }
 
-// Keeps what an item stands for, where all that its query names are known.
+// Resolves the item that waits last, all that its query names being known, and the views in front of it that read
+// nothing else. The topmost is kept.
 fn learn(
     alloc: Global,
     catalog: &Catalog,
     cluster: u64,
     known: &mut Known,
+    wanted: &Wanted,
+    waiting: &mut Vec<u64>,
     item: &Item,
 ) -> Result<(), AllocError>
     requires holds { IsTrueOf catalog.now cluster known.old.entries }
-    requires unknown { is_known known.old.entries item.now.id ≡ false }
+    requires there { numbered item.now.id catalog.now.items ≡ Some item.now }
+    requires path { IsPath known.old.entries catalog.now.items
+        (waiting.old.items ++ item.now.id ∷ []) }
     requires reached { unknown_in known.old.entries catalog.now item.now.id
         (selects_of item.now.kind) ≡ None }
-    ensures ok { OnOk result (known.new.entries ≡ known.old.entries
-        ++ (item.now.id, stands_for catalog.now cluster item.now) ∷ []) }
+    ensures ok { OnOk result (Learns catalog.now cluster known.old.entries waiting.old.items
+        item.now.id known.new.entries waiting.new.items) }
     ensures err { OnErr result (known.new.entries ≡ known.old.entries) }
 {
-    match item_relation(alloc, catalog, cluster, known, item) {
-        Ok(relation) => keep(known, item.id, Ok(relation)),
-        Err(CallFault::Refused(refusal)) => keep(known, item.id, Err(refusal)),
-        Err(CallFault::Memory) => Err(AllocError),
-    }
+    let kept = kept_of(item_relation(alloc, catalog, cluster, known, item))?;
+    let (top, kept) = climb(alloc, catalog, cluster, wanted, waiting, item.id, kept)?;
+    keep(known, top, kept)
 }
 
 // The item of this number, which waits last, is resolved where all that its query names are known. Else it waits on,
@@ -61,11 +66,12 @@ fn step(
     catalog: &Catalog,
     cluster: u64,
     known: &mut Known,
+    wanted: &Wanted,
     waiting: &mut Vec<u64>,
     id: u64,
 ) -> Result<(), AllocError>
     requires holds { IsTrueOf catalog.now cluster known.old.entries }
-    requires waits { IsWaiting known.old.entries catalog.now.items id }
+    requires path { IsPath known.old.entries catalog.now.items (waiting.old.items ++ id ∷ []) }
     ensures ok { OnOk result (Steps catalog.now cluster known.old.entries waiting.old.items id
         known.new.entries waiting.new.items) }
     ensures err { OnErr result (known.new.entries ≡ known.old.entries) }
@@ -74,7 +80,7 @@ fn step(
     let item = catalog.item(id);
     match unknown_in(known, catalog, item.id, selects_of(&item.kind)) {
         Some(older) => wait_for(waiting, id, older),
-        None => learn(alloc, catalog, cluster, known, item),
+        None => learn(alloc, catalog, cluster, known, wanted, waiting, item),
     }
 }
 
@@ -84,6 +90,7 @@ fn reach(
     catalog: &Catalog,
     cluster: u64,
     known: &mut Known,
+    wanted: &Wanted,
     item: u64,
 ) -> Result<(), AllocError>
     requires holds { IsTrueOf catalog.now cluster known.old.entries }
@@ -95,7 +102,7 @@ fn reach(
     let mut waiting = Vec::new(alloc);
     waiting.push(item)?;
     'items: while let Some(last) = waiting.pop() {
-        step(alloc, catalog, cluster, known, &mut waiting, last)?;
+        step(alloc, catalog, cluster, known, wanted, &mut waiting, last)?;
     }
     Ok(())
 }
@@ -106,6 +113,7 @@ fn reach_named(
     catalog: &Catalog,
     cluster: u64,
     known: &mut Known,
+    wanted: &Wanted,
     below: u64,
     name: &Name,
 ) -> Result<(), AllocError>
@@ -116,7 +124,7 @@ fn reach_named(
         (unknown_named known.new.entries catalog.now below name.now ≡ None) }
 {
     match unknown_named(known, catalog, below, name) {
-        Some(item) => reach(alloc, catalog, cluster, known, item),
+        Some(item) => reach(alloc, catalog, cluster, known, wanted, item),
         None => Ok(()),
     }
 }
@@ -127,6 +135,7 @@ fn reach_joined(
     catalog: &Catalog,
     cluster: u64,
     known: &mut Known,
+    wanted: &Wanted,
     below: u64,
     joins: &[Join],
 ) -> Result<(), AllocError>
@@ -137,7 +146,15 @@ fn reach_joined(
         (map (λ join. join.reference) joins.now) ≡ None) }
 {
     'joins: for join in joins {
-        reach_named(alloc, catalog, cluster, known, below, &join.reference.name)?;
+        reach_named(
+            alloc,
+            catalog,
+            cluster,
+            known,
+            wanted,
+            below,
+            &join.reference.name,
+        )?;
     }
     Ok(())
 }
@@ -148,6 +165,7 @@ fn reach_selected(
     catalog: &Catalog,
     cluster: u64,
     known: &mut Known,
+    wanted: &Wanted,
     below: u64,
     select: &Select,
 ) -> Result<(), AllocError>
@@ -157,12 +175,21 @@ fn reach_selected(
     ensures reached { OnOk result (unknown_of known.new.entries catalog.now below
         (references select.now) ≡ None) }
 {
-    reach_named(alloc, catalog, cluster, known, below, &select.first.name)?;
+    reach_named(
+        alloc,
+        catalog,
+        cluster,
+        known,
+        wanted,
+        below,
+        &select.first.name,
+    )?;
     reach_joined(
         alloc,
         catalog,
         cluster,
         known,
+        wanted,
         below,
         select.joins.as_slice(),
     )
@@ -174,6 +201,7 @@ fn reach_all(
     catalog: &Catalog,
     cluster: u64,
     known: &mut Known,
+    wanted: &Wanted,
     below: u64,
     selects: &[Select],
 ) -> Result<(), AllocError>
@@ -184,7 +212,7 @@ fn reach_all(
         (unknown_in known.new.entries catalog.now below selects.now ≡ None) }
 {
     'selects: for select in selects {
-        reach_selected(alloc, catalog, cluster, known, below, select)?;
+        reach_selected(alloc, catalog, cluster, known, wanted, below, select)?;
     }
     Ok(())
 }
@@ -195,6 +223,7 @@ fn named_after(
     catalog: &Catalog,
     cluster: u64,
     known: &mut Known,
+    wanted: &Wanted,
     below: u64,
     name: &Name,
 ) -> Result<NamedRelation, CallFault>
@@ -202,7 +231,7 @@ fn named_after(
     ensures { Is result
         (named (scope_in catalog.now cluster) (items_below below catalog.now.items) name.now) }
 {
-    reach_named(alloc, catalog, cluster, known, below, name)?;
+    reach_named(alloc, catalog, cluster, known, wanted, below, name)?;
     named_by(alloc, catalog, cluster, known, below, name)
 }
 
@@ -218,8 +247,9 @@ pub fn named(
     ensures { Is result
         (named (scope_in catalog.now cluster) (items_below below catalog.now.items) name.now) }
 {
+    let wanted = IndexSet::new(alloc);
     let mut known = IndexMap::new(alloc);
-    named_after(alloc, catalog, cluster, &mut known, below, name)
+    named_after(alloc, catalog, cluster, &mut known, &wanted, below, name)
 }
 
 // The relation of a query, the items that it names resolved first.
@@ -228,13 +258,14 @@ fn queried_after(
     catalog: &Catalog,
     cluster: u64,
     known: &mut Known,
+    wanted: &Wanted,
     below: u64,
     selects: &[Select],
 ) -> Result<Relation, CallFault>
     requires { IsTrueOf catalog.now cluster known.old.entries }
     ensures { Is result (queried (names_below catalog.now cluster below) selects.now) }
 {
-    reach_all(alloc, catalog, cluster, known, below, selects)?;
+    reach_all(alloc, catalog, cluster, known, wanted, below, selects)?;
     queried_by(alloc, catalog, cluster, known, below, selects)
 }
 
@@ -249,6 +280,7 @@ pub fn queried(
 ) -> Result<Relation, CallFault>
     ensures { Is result (queried (names_below catalog.now cluster below) selects.now) }
 {
+    let wanted = wanted_by(alloc, catalog, below, selects)?;
     let mut known = IndexMap::new(alloc);
-    queried_after(alloc, catalog, cluster, &mut known, below, selects)
+    queried_after(alloc, catalog, cluster, &mut known, &wanted, below, selects)
 }

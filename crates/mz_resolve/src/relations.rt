@@ -32,8 +32,8 @@ fn leaf_or(index: Option<u64>, below: Plan) -> Plan
     }
 }
 
-// A relation of the item of this number, which is read by its oldest index where it has one.
-fn relation_of(
+/// A relation of the item of this number, which is read by its oldest index where it has one.
+pub fn relation_of(
     catalog: &Catalog,
     cluster: u64,
     item: u64,
@@ -54,8 +54,8 @@ fn relation_of(
     }
 }
 
-// What a reference calls its relation.
-fn name_or(alloc: Global, alias: &Option<Name>, name: &Name) -> Result<Name, AllocError>
+/// What a reference calls its relation.
+pub fn name_or(alloc: Global, alias: &Option<Name>, name: &Name) -> Result<Name, AllocError>
     ensures { IfOk result (λ called. called ≡ name_or alias.now name.now) }
 {
     match alias {
@@ -64,15 +64,15 @@ fn name_or(alloc: Global, alias: &Option<Name>, name: &Name) -> Result<Name, All
     }
 }
 
-// The relation without the number of its item.
-fn without_number(found: NamedRelation) -> Relation
+/// The relation without the number of its item.
+pub fn without_number(found: NamedRelation) -> Relation
     ensures { result ≡ found.relation }
 {
     found.relation
 }
 
-// The plan of a relation, and how many tables it names.
-fn plan_and_tables(relation: Relation) -> (Plan, u64)
+/// The plan of a relation, and how many tables it names.
+pub fn plan_and_tables(relation: Relation) -> (Plan, u64)
     ensures plan { result.0 ≡ relation.plan }
     ensures tables { result.1 ≡ relation.tables }
 {

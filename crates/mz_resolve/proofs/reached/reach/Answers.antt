@@ -1,12 +1,11 @@
 use Rattle.std.proofs.Common.{◌<◌, sym, subst}
-use Rattle.mz_resolve.proofs.PathLemmas.{IsPath, IsUnderWay, last_waits, left, left_falls, under_way_next}
+use Rattle.mz_resolve.specs.Waiting.{IsPath}
+use Rattle.mz_resolve.proofs.PathLemmas.{IsUnderWay, left, left_falls, under_way_next}
 use Rattle.mz_resolve.proofs.reached.reach.Goals as goal
 
 -- the last one of those that wait
-pub step-requires-clause-waits : goal.step-requires-clause-waits
-step-requires-clause-waits c =
-    last_waits c.items.known.entries c.args.catalog.now.items c.pop.new.self.items c.in-Some.last
-    (subst (IsPath c.items.known.entries c.args.catalog.now.items) c.in-Some.ensures.items c.items.invariant.path)
+pub step-requires-clause-path : goal.step-requires-clause-path
+step-requires-clause-path c = subst (IsPath c.items.known.entries c.args.catalog.now.items) c.in-Some.ensures.items c.items.invariant.path
 
 -- a step leaves less to be done
 pub items-smaller : goal.items-smaller
