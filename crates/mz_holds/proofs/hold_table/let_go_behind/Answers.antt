@@ -1,7 +1,7 @@
 use Rattle.std.proofs.Common.{◌≡◌, ◌+◌, ◌≤◌, ◌++◌, ◌∷◌, [], ap, subst, sym, ◌∙◌, arith, length, take}
 use Rattle.std.proofs.lemmas.List.{length-append, take-append-le}
 use Rattle.mz_holds.specs.Kept.{AreCounted}
-use Rattle.mz_holds.proofs.Held.{counted_less, last_counted}
+use Rattle.mz_holds.proofs.Tabled.{counted_less, last_counted}
 use Rattle.mz_holds.proofs.hold_table.let_go_behind.Goals as goal
 
 -- the last is counted

@@ -2,7 +2,7 @@ use Rattle.std.proofs.Common.{ap, ◌∙◌}
 use Rattle.mz_counted.specs.Counted.{count}
 use Rattle.mz_holds.specs.HoldBook.{times_on}
 use Rattle.mz_holds.specs.Kept.{times_at}
-use Rattle.mz_holds.proofs.Held.{count_kept}
+use Rattle.mz_holds.proofs.Tabled.{count_kept}
 use Rattle.mz_holds.proofs.hold_table.HoldTable.count.Goals as goal
 
 pub returns : goal.returns

@@ -3,7 +3,7 @@ use Rattle.mz_counted.specs.Counted.{least_of}
 use Rattle.mz_rules.specs.Capabilities.{of_hold}
 use Rattle.mz_rules.specs.Since.{least_on}
 use Rattle.mz_holds.specs.Kept.{times_at}
-use Rattle.mz_holds.proofs.Held.{least_kept}
+use Rattle.mz_holds.proofs.Tabled.{least_kept}
 use Rattle.mz_holds.proofs.hold_table.HoldTable.least.Goals as goal
 
 pub returns : goal.returns

@@ -1,7 +1,7 @@
 use Rattle.std.proofs.Common.{ap, subst, sym, ◌∙◌}
 use Rattle.mz_holds.specs.HoldBook.{hold_of}
 use Rattle.mz_holds.specs.Kept.{IsKept}
-use Rattle.mz_holds.proofs.Held.{is_counted, kept_less}
+use Rattle.mz_holds.proofs.Tabled.{is_counted, kept_less}
 use Rattle.mz_holds.proofs.hold_table.HoldTable.release.Goals as goal
 
 -- what is found is counted

@@ -1,7 +1,7 @@
 use Rattle.std.proofs.Common.{◌+◌, ap, subst, sym, refl, ◌∙◌}
 use Rattle.mz_counted.specs.Counted.{inserted}
 use Rattle.mz_holds.specs.Kept.{IsKept, changed_at}
-use Rattle.mz_holds.proofs.Held.{kept_more}
+use Rattle.mz_holds.proofs.Tabled.{kept_more}
 use Rattle.mz_holds.proofs.hold_table.HoldTable.take.Goals as goal
 
 -- the hold stands behind the others, and its time is counted

@@ -1,7 +1,7 @@
 use Rattle.std.proofs.Common.{ap, ◌∙◌, length}
 use Rattle.mz_holds.specs.HoldBook.{times_on}
 use Rattle.mz_holds.specs.Kept.{times_at}
-use Rattle.mz_holds.proofs.Held.{total_kept}
+use Rattle.mz_holds.proofs.Tabled.{total_kept}
 use Rattle.mz_holds.proofs.hold_table.HoldTable.total.Goals as goal
 
 pub returns : goal.returns
