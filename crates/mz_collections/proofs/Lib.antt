@@ -1,3 +1,4 @@
+pub mod Changing
 pub mod Halfway
 pub mod LastLive
 pub mod Parts

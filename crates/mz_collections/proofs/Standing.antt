@@ -16,7 +16,7 @@ use Rattle.mz_rules.proofs.Exact.{settled_are}
 use Rattle.mz_collections.specs.CollectionBook.{changed, collections_of, IsMade}
 use Rattle.mz_collections.specs.Kept.{live_of, passed_found, passed_to, AreIdle, AreKept, AreMarked, IsOlder, ReadOlderOnes}
 use Rattle.mz_collections.proofs.Parts.{older_same, same_length}
-use Rattle.mz_collections.proofs.Resting.{Keeps, like}
+use Rattle.mz_collections.proofs.Changing.{Keeps, like}
 use Rattle.mz_collections.proofs.Settling.{live_both, live_here}
 use Rattle.mz_collections.proofs.Under.{numbered_changed, length_changed, numbered_take, numbered_one}
 

@@ -8,7 +8,7 @@ use Rattle.mz_rules.specs.Frontiers.{is_at}
 use Rattle.mz_rules.specs.Since.{since_of}
 use Rattle.mz_collections.specs.CollectionBook.{IsMade}
 use Rattle.mz_collections.specs.Kept.{AreAtRest}
-use Rattle.mz_collections.proofs.Resting.{rest_made}
+use Rattle.mz_collections.proofs.Changing.{rest_made}
 use Rattle.mz_collections.proofs.Standing.{kept_made, marked_grown}
 use Rattle.mz_collections.proofs.collections.Collections.create.Goals as goal
 

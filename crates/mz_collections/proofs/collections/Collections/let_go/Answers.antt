@@ -2,7 +2,7 @@ use Rattle.std.proofs.Common.{refl, subst, sym, map}
 use Rattle.mz_rules.specs.Moves.{let_go as let_go_of}
 use Rattle.mz_rules.specs.Capabilities.{of_hold}
 use Rattle.mz_collections.specs.Kept.{AreAtRest}
-use Rattle.mz_collections.proofs.Resting.{Keeps, at_rest_changed}
+use Rattle.mz_collections.proofs.Changing.{Keeps, at_rest_changed}
 use Rattle.mz_collections.proofs.Standing.{kept_changed, marked_none}
 use Rattle.mz_collections.proofs.collections.Collections.let_go.Goals as goal
 

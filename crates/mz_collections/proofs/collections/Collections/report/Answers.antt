@@ -3,7 +3,7 @@ use Rattle.mz_collections.specs.CollectionBook.{come_past}
 use Rattle.mz_rules.specs.Capabilities.{of_hold}
 use Rattle.mz_rules.specs.Policy.{raised}
 use Rattle.mz_collections.specs.Kept.{AreAtRest}
-use Rattle.mz_collections.proofs.Resting.{Keeps, at_rest_changed}
+use Rattle.mz_collections.proofs.Changing.{Keeps, at_rest_changed}
 use Rattle.mz_collections.proofs.Standing.{kept_changed, marked_none}
 use Rattle.mz_collections.proofs.collections.Collections.report.Goals as goal
 
