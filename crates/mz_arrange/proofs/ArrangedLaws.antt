@@ -1,27 +1,27 @@
--- What is arranged stays so where updates go into the bag, where more come behind them, and where the since moves.
-use Rattle.std.proofs.Common.{◌≡◌, ℕ, ◌+◌, ◌<◌, ◌≤◌, ◌&&◌, nat_le, nat_lt, Bool, true, false, cond, pos, ◌+ℤ◌, List, [], ◌∷◌, ◌++◌, refl, sym, ap, subst, ◌∙◌, arith}
+-- What is arranged stays so where updates go among the rows, where more come behind them, and where the since moves.
+use Rattle.std.proofs.Common.{◌≡◌, ℕ, ◌+◌, ◌<◌, ◌≤◌, ◌&&◌, nat_le, nat_lt, Bool, true, false, cond, ◌+ℤ◌, List, [], ◌∷◌, ◌++◌, refl, sym, ap, subst, ◌∙◌, arith}
 use Rattle.std.proofs.lemmas.List.{append_assoc}
 use Rattle.std.proofs.lemmas.Bool.Decides.{nat_tests}
 use Rattle.std.proofs.lemmas.Int.{ints}
-use Rattle.std.specs.FinMap.{empty, entries}
+use Rattle.std.specs.FinMap.{entries}
 use Rattle.std.specs.Result.{OnErr}
 use Rattle.std.specs.declared.result.Result.{Result}
 use Rattle.std.specs.declared.result.Result.TheVariants.{Ok, Err}
 use Rattle.std.specs.List.{AllByRecursion as Each}
 use Rattle.mz_value.specs.declared.datum.Datum.{Datum}
-use Rattle.mz_bag.specs.Bag.{Counts, count_in, Fits, FitsWith, IsStored}
+use Rattle.mz_bag.specs.Bag.{count_in, Fits, IsStored}
 use Rattle.mz_bag.specs.Mass.{IsLight}
-use Rattle.mz_bag.specs.Weighted.{Weighted, count, bag_of, sum_of}
-use Rattle.mz_bag.proofs.BagLaws.{bag_of-same, count-append, count-entries, count_in-bag_of, count_in-sum_of, count_in-empty, same_counts, sum_of-bag_of, IsBag-bag_of, IsBag-empty}
+use Rattle.mz_bag.specs.Weighted.{Weighted, count, bag_of}
+use Rattle.mz_bag.proofs.BagLaws.{bag_of-same, count-append, count-entries, count_in-bag_of, sum_of-bag_of, IsBag-bag_of}
 use Rattle.mz_bag.proofs.MassLaws.{light_fits}
 use Rattle.mz_updates.specs.declared.update.Update.{Update}
 use Rattle.mz_updates.specs.Contents.{weights, up_to, contents, between, stamped, FitsAt, FitsFrom, IsBefore, SameFrom}
 use Rattle.mz_updates.proofs.ContentsLaws.{contents-append, contents-before}
 use Rattle.mz_updates.proofs.LightLists.{light_contents}
 use Rattle.mz_arrange.specs.Arranged.{rows_at, IsFresh, IsInserted, IsSameFrom, TakesUpdates}
-use Rattle.mz_arrange.specs.Kept.{arranged, behind, IsKept}
+use Rattle.mz_arrange.specs.Kept.{arranged, behind, IsKept, SameRows}
 
--- ---- a bag and updates behind it
+-- ---- rows and updates behind them
 
 -- rows at the first time are there at every time
 stamped_first : (t : ℕ) (ws : Weighted) → Each (λ u. u.time < t + 1) (stamped 0 ws)
@@ -35,26 +35,27 @@ weights-stamped (w ∷ ws) = ap (λ vs. w ∷ vs) (weights-stamped ws)
 pub contents-stamped : (t : ℕ) (ws : Weighted) → contents t (stamped 0 ws) ≡ ws
 contents-stamped t ws = contents-before t (t + 1) (stamped 0 ws) (record { each = stamped_first t ws }) (omega arith) ∙ weights-stamped ws
 
--- so a row is there as often as in the bag and in what the updates contain
-pub count-behind : (t : ℕ) (rows : Counts) (later : List Update) (row : List Datum)
-    → count row (contents t (behind rows later)) ≡ count_in rows row +ℤ count row (contents t later)
-count-behind t rows later row =
-    ap (count row) (contents-append t (stamped 0 (entries rows)) later ∙ ap (λ ws. ws ++ contents t later) (contents-stamped t (entries rows)))
-    ∙ count-append row (entries rows) (contents t later) ∙ ap (λ z. z +ℤ count row (contents t later)) (count-entries rows row)
+-- so the rows are there, and what the updates contain
+pub contents-behind : (t : ℕ) (rows : Weighted) (later : List Update) → contents t (behind rows later) ≡ rows ++ contents t later
+contents-behind t rows later = contents-append t (stamped 0 rows) later ∙ ap (λ ws. ws ++ contents t later) (contents-stamped t rows)
 
--- ---- what goes into the bag
+-- each row as often as in both
+count-behind : (t : ℕ) (rows : Weighted) (later : List Update) (row : List Datum)
+    → count row (contents t (behind rows later)) ≡ count row rows +ℤ count row (contents t later)
+count-behind t rows later row = ap (count row) (contents-behind t rows later) ∙ count-append row rows (contents t later)
+
+-- ---- what goes among the rows
 
 -- of light updates a bag can have what they contain
 pub fits_light : (since : ℕ) (us : List Update) → IsLight (weights us) → FitsAt since us
 fits_light since us light = record { fits = λ row. light_fits (contents since us) row ((light_contents 0 us light).light since (omega arith)) }
 
--- and with it what was there, since all is within the bound
-pub fits_with : (since : ℕ) (rows : Counts) (later : List Update) → FitsFrom since (behind rows later) → FitsWith rows (bag_of (contents since later))
-fits_with since rows later h = record {
-  fits = λ row.
-      subst Fits (count-behind since rows later row ∙ ap (λ z. count_in rows row +ℤ z) (sym (count_in-bag_of (contents since later) row)))
-      (h.fits since row (omega arith));
-}
+-- and the rows with it are within the bound, since all is
+pub fits_with : (since : ℕ) (rows : Weighted) (later : List Update) → FitsFrom since (behind rows later)
+    → (row : List Datum) → Fits (count row rows +ℤ count_in (bag_of (contents since later)) row)
+fits_with since rows later h row =
+    subst Fits (count-behind since rows later row ∙ ap (λ z. count row rows +ℤ z) (sym (count_in-bag_of (contents since later) row)))
+    (h.fits since row (omega arith))
 
 -- what is there at a time is what is there at an earlier one, and what came after that
 count-since : (since t upper : ℕ) (row : List Datum) (us : List Update) → since ≤ t → Each (λ u. u.time < upper) us
@@ -84,19 +85,25 @@ count-since since t upper row (u ∷ us) h k =
     by true false d e f g rest = absurd (grind (arith, nat_tests))
     by false d false e f g rest = let below : u.time < upper = k.0 in absurd (grind (arith, nat_tests))
 
--- so with the contents at the since in the bag, and the later updates behind it, all is as before from there on
-pub same_taken : (since upper : ℕ) (rows : Counts) (later : List Update) → IsBefore upper later
-    → SameFrom since (behind (sum_of rows (bag_of (contents since later))) (between (since + 1) upper later)) (behind rows later)
-same_taken since upper rows later before = record {
+-- so with the contents at the since among the rows, and the later updates behind them, all is as before from there on
+pub same_taken : (since upper : ℕ) (rows taken : Weighted) (later : List Update) → SameRows taken (rows ++ entries (bag_of (contents since later))) → IsBefore upper later
+    → SameFrom since (behind taken (between (since + 1) upper later)) (behind rows later)
+same_taken since upper rows taken later same before = record {
   counts = λ t row h.
-      let taken = sum_of rows (bag_of (contents since later)) in
+      let due = entries (bag_of (contents since later)) in
       let rest = between (since + 1) upper later in
-      let in_bag = count_in-sum_of rows (bag_of (contents since later)) row in
-      let due = count_in-bag_of (contents since later) row in
+      let both : count row taken ≡ count row rows +ℤ count row due = same.counts row ∙ count-append row rows due in
+      let is : count row due ≡ count row (contents since later) = count-entries (bag_of (contents since later)) row ∙ count_in-bag_of (contents since later) row in
       let split = count-since since t upper row later h before.each in
       let new = count-behind t taken rest row in
       let old = count-behind t rows later row in
-      omega (arith, ints, in_bag, due, split, new, old);
+      omega (arith, ints, both, is, split, new, old);
+}
+
+-- and where each row is there as often, all is as before
+pub same_rows : (since : ℕ) (rows others : Weighted) (later : List Update) → SameRows others rows → SameFrom since (behind others later) (behind rows later)
+same_rows since rows others later same = record {
+  counts = λ t row h. count-behind t others later row ∙ ap (λ z. z +ℤ count row (contents t later)) (same.counts row) ∙ sym (count-behind t rows later row);
 }
 
 -- and they are before the upper
@@ -149,21 +156,21 @@ fits_behind since upper us vs ws same takes = record {
       subst Fits all ((takes.fits t k).fits row);
 }
 
-pub kept_inserted : (rows : Counts) (later us vs : List Update) (since upper next : ℕ) → SameFrom since (behind rows later) us → IsBefore upper later → IsBefore next vs
+pub kept_inserted : (rows : Weighted) (later us vs : List Update) (since upper next : ℕ) → SameFrom since (behind rows later) us → IsBefore upper later → IsBefore next vs
     → upper ≤ next → TakesUpdates vs (arranged us since upper) → IsKept rows (later ++ vs) since next
 kept_inserted rows later us vs since upper next same before ends h takes = record {
   before = record { each = each_both (λ u. u.time < next) later vs (each_later upper next later h before.each) ends.each };
-  fits = subst (FitsFrom since) (append_assoc (stamped 0 (entries rows)) later vs) (fits_behind since upper us vs (behind rows later) same takes);
+  fits = subst (FitsFrom since) (append_assoc (stamped 0 rows) later vs) (fits_behind since upper us vs (behind rows later) same takes);
 }
 
 -- each row is there as often as in both
-pub inserted : (rows : Counts) (later us vs : List Update) (since upper next : ℕ) → SameFrom since (behind rows later) us
+pub inserted : (rows : Weighted) (later us vs : List Update) (since upper next : ℕ) → SameFrom since (behind rows later) us
     → IsInserted vs next (arranged us since upper) (arranged (behind rows (later ++ vs)) since next)
 inserted rows later us vs since upper next same = record {
   since = refl;
   upper = refl;
   rows = λ t k.
-      ap (λ ws. bag_of (contents t ws)) (sym (append_assoc (stamped 0 (entries rows)) later vs))
+      ap (λ ws. bag_of (contents t ws)) (sym (append_assoc (stamped 0 rows) later vs))
       ∙ bag_of-same (contents t (behind rows later ++ vs)) (contents t us ++ contents t vs) (λ q.
       ap (count q) (contents-append t (behind rows later) vs) ∙ count-append q (contents t (behind rows later)) (contents t vs)
       ∙ ap (λ z. z +ℤ count q (contents t vs)) (same.counts t q k) ∙ sym (count-append q (contents t us) (contents t vs)))
@@ -173,7 +180,7 @@ inserted rows later us vs since upper next same = record {
 -- ---- a later since
 
 -- what is kept from a time on is kept from a later one on
-pub kept_later : (rows : Counts) (later : List Update) (since oldest upper : ℕ) → since ≤ oldest → IsKept rows later since upper → IsKept rows later oldest upper
+pub kept_later : (rows : Weighted) (later : List Update) (since oldest upper : ℕ) → since ≤ oldest → IsKept rows later since upper → IsKept rows later oldest upper
 kept_later rows later since oldest upper h is = record { before = is.before; fits = record { fits = λ t row k. is.fits.fits t row (omega (arith, h, k)) } }
 
 -- ---- bounds
@@ -194,28 +201,22 @@ after_error (Err e) p = p
 
 -- ---- no row
 
--- the empty bag with nothing behind it has no row
-none_at : (t : ℕ) (row : List Datum) → count row (contents t (behind empty [])) ≡ pos 0
-none_at t row =
-    let nothing : count row (contents t []) ≡ pos 0 = refl in
-    omega (arith, ints, count-behind t empty [] row, count_in-empty row, nothing)
-
-kept_none : (since upper : ℕ) → IsKept empty [] since upper
+-- where nothing is kept there is no row
+kept_none : (since upper : ℕ) → IsKept [] [] since upper
 kept_none since upper = record {
   before = record { each = tt };
-  fits = record { fits = λ t row h. subst Fits (sym (none_at t row)) (record { low = omega (arith, ints); high = omega (arith, ints) }) };
+  fits = record { fits = λ t row h. record { low = omega (arith, ints); high = omega (arith, ints) } };
 }
 
-fresh_none : (as_of : ℕ) → IsFresh as_of (arranged (behind empty []) as_of as_of)
+fresh_none : (as_of : ℕ) → IsFresh as_of (arranged (behind [] []) as_of as_of)
 fresh_none as_of = record {
   since = refl;
   upper = refl;
-  no_row = λ t. same_counts (bag_of (contents t (behind empty []))) empty (IsBag-bag_of (contents t (behind empty []))) IsBag-empty (λ q.
-      count_in-bag_of (contents t (behind empty [])) q ∙ none_at t q ∙ sym (count_in-empty q));
+  no_row = λ t. refl;
 }
 
-pub kept_fresh : (rows : Counts) (later : List Update) (as_of : ℕ) → rows ≡ empty → later ≡ [] → IsKept rows later as_of as_of
-kept_fresh rows later as_of no_row no_update = subst (λ (p : Counts × List Update). IsKept p.0 p.1 as_of as_of) (sym (λ i. (no_row i, no_update i))) (kept_none as_of as_of)
+pub kept_fresh : (rows : Weighted) (later : List Update) (as_of : ℕ) → rows ≡ [] → later ≡ [] → IsKept rows later as_of as_of
+kept_fresh rows later as_of no_row no_update = subst (λ (p : Weighted × List Update). IsKept p.0 p.1 as_of as_of) (sym (λ i. (no_row i, no_update i))) (kept_none as_of as_of)
 
-pub is_fresh : (rows : Counts) (later : List Update) (as_of : ℕ) → rows ≡ empty → later ≡ [] → IsFresh as_of (arranged (behind rows later) as_of as_of)
-is_fresh rows later as_of no_row no_update = subst (λ (p : Counts × List Update). IsFresh as_of (arranged (behind p.0 p.1) as_of as_of)) (sym (λ i. (no_row i, no_update i))) (fresh_none as_of)
+pub is_fresh : (rows : Weighted) (later : List Update) (as_of : ℕ) → rows ≡ [] → later ≡ [] → IsFresh as_of (arranged (behind rows later) as_of as_of)
+is_fresh rows later as_of no_row no_update = subst (λ (p : Weighted × List Update). IsFresh as_of (arranged (behind p.0 p.1) as_of as_of)) (sym (λ i. (no_row i, no_update i))) (fresh_none as_of)

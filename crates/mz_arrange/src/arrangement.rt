@@ -11,19 +11,20 @@ use mz_time::Time;
 use mz_updates::Updates;
 use mz_value::Row;
 use std::alloc::{AllocError, Global};
+use std::collections::BTreeMap;
 use std::marker::Model;
 
 /// Rows with a count each, at each time from its since on and below its upper.
 #[derive(Drop)]
 pub struct Arrangement {
     alloc: Global,
-    // The rows at a time up to the since.
-    rows: Bag,
+    // The rows at a time up to the since, in order, with their counts.
+    rows: BTreeMap<Row, i128>,
     // What changes after that time.
     later: Updates,
     since: Time,
     upper: Time,
-    // How many updates were left when those up to the since last went into the bag.
+    // How many updates were left when those up to the since last went among the rows.
     left: usize,
 }
 
@@ -33,9 +34,9 @@ impl Model for Arrangement {
 
     ghost Value = { Arranged };
 
-    ghost view = { λ a. arranged (behind a.rows a.later) a.since a.upper };
+    ghost view = { λ a. arranged (behind a.rows.entries a.later) a.since a.upper };
 
-    ghost invariant = { λ a. IsKept a.rows a.later a.since a.upper };
+    ghost invariant = { λ a. IsKept a.rows.entries a.later a.since a.upper };
 }
 
 impl Arrangement {
@@ -45,7 +46,7 @@ impl Arrangement {
     {
         Arrangement {
             alloc,
-            rows: Bag::empty(alloc),
+            rows: BTreeMap::new(alloc),
             later: Updates::empty(alloc),
             since: as_of,
             upper: as_of,
@@ -53,8 +54,8 @@ impl Arrangement {
         }
     }
 
-    /// The first time at which the rows can be read. From it on each row is there within the bound on counts.
-    /// Takes no memory. O(1).
+    /// The first time at which the rows can be read. From it on each row is there within the bound
+    /// on counts. Takes no memory. O(1).
     pub fn since(&self) -> Time
         ensures since { result ≡ self.now.since }
         ensures stored { (t : ℕ) → self.now.since ≤ t → IsStored (rows_at self.now t) }
@@ -69,9 +70,10 @@ impl Arrangement {
         self.upper
     }
 
-    /// Adds updates at times from the upper on and below the new one. After an `Err` the rows are as before.
-    /// O(m) amortized, where there are m updates, but for the calls that first put what the since has passed into the bag:
-    /// O(k log k), where k updates came since it last moved, and over all calls O(log k) for each update.
+    /// Adds updates at times from the upper on and below the new one. After an `Err` the rows are as
+    /// before. O(m) amortized, where there are m updates, but for the calls that first put what the
+    /// since has passed among the rows: O(k log n), where k updates came since it last moved, and over
+    /// all calls O(log n) for each update.
     pub fn insert(&mut self, updates: Updates, upper: Time) -> Result<(), AllocError>
         requires from { IsFrom self.old.upper updates }
         requires before { IsBefore upper updates }
@@ -106,7 +108,8 @@ impl Arrangement {
     }
 
     /// The rows at a time that begin with the values of a key.
-    /// O(n + k log k), where there are n rows and later updates and k of them are of the key. Only these are copied.
+    /// O(log n + l + k log k), where there are n rows and l later updates, and k of both are of the
+    /// key. Only these are copied.
     pub fn seek(&self, key: &Row, t: Time) -> Result<Bag, AllocError>
         requires since { self.now.since ≤ t }
         requires upper { t < self.now.upper }

@@ -1,14 +1,16 @@
-//! How updates come behind others, and how those that the since has passed go into the bag.
-ghost use Rattle.std.specs.Prelude.{◌≡◌, ◌+◌, ◌≤◌, ◌++◌, ◌^◌, length, nat_abs, take, IfOk, IsTrue, OnOk, OnErr, SomeIff};
+//! How updates come behind others, and how those that the since has passed go among the rows.
+ghost use Rattle.std.specs.Prelude.{◌≡◌, ◌+◌, ◌≤◌, ◌++◌, ◌∷◌, [], ◌^◌, length, nat_abs, take, IfOk, IsTrue, OnOk, OnErr, SomeIff};
 ghost use Rattle.mz_bag.specs.Mass.{mass, IsLight};
-ghost use Rattle.mz_updates.specs.Contents.{weights, FitsFrom, IsBefore, SameFrom};
+ghost use Rattle.mz_updates.specs.Contents.{stamp, stamped, weights, FitsFrom, IsBefore, SameFrom};
 ghost use Rattle.mz_arrange.specs.Kept.{behind};
 
-use mz_bag::{Bag, MOST_COUNT};
+use crate::ordered::add_bag;
+use mz_bag::MOST_COUNT;
 use mz_time::Time;
 use mz_updates::{Update, Updates, between};
-use mz_value::TryCopy;
+use mz_value::{Row, TryCopy};
 use std::alloc::{AllocError, Global};
+use std::collections::BTreeMap;
 
 // Puts updates behind others, or some of them where it answers an `Err`.
 fn push_each(updates: &mut Updates, more: Updates) -> Result<(), AllocError>
@@ -61,49 +63,46 @@ fn is_light(updates: &[Update]) -> bool
     mass(updates).is_some()
 }
 
-// Puts what updates contain at a since into the bag, and keeps the later ones behind it.
-// O(k log k), where there are k updates.
+// Puts what updates contain at a since among the rows, and keeps the later ones behind them.
+// O(k log n), where there are k updates and n rows.
 fn take_in(
     alloc: Global,
-    rows: &mut Bag,
+    rows: &mut BTreeMap<Row, i128>,
     later: &mut Updates,
     since: Time,
     upper: Time,
 ) -> Result<(), AllocError>
     requires light { IsLight (weights later.old) }
     requires before { IsBefore upper later.old }
-    requires fits { FitsFrom since (behind rows.old later.old) }
-    ensures before { OnOk result (IsBefore upper later.new) }
-    ensures same { OnOk result
-        (SameFrom since (behind rows.new later.new) (behind rows.old later.old)) }
-    ensures rows { OnErr result (rows.new ≡ rows.old) }
-    ensures later { OnErr result (later.new ≡ later.old) }
+    requires fits { FitsFrom since (behind rows.old.entries later.old) }
+    ensures before { IsBefore upper later.new }
+    ensures same { SameFrom since
+        (behind rows.new.entries later.new) (behind rows.old.entries later.old) }
 {
     let due = later.contents(since)?;
     let rest = between(alloc, later.as_slice(), since.number() + 1, upper.number())?;
-    rows.merge(&due)?;
+    add_bag(alloc, rows, due)?;
     *later = rest;
     Ok(())
 }
 
-/// Puts what updates contain at a since into the bag, where there are more than twice as many as were left the last time.
-/// Gives how many are left then. The rare updates whose diffs together are past the bound on counts stay where they are.
-/// After an `Err` bag and updates are as before. O(k log k), where there are k updates, and O(1) in between.
+/// Puts what updates contain at a since among the rows, where there are more than twice as many as
+/// were left the last time. Gives how many are left then. The rare updates whose diffs together are
+/// past the bound on counts stay where they are.
+/// O(k log n), where there are k updates and n rows, and O(1) in between.
 pub fn fold(
     alloc: Global,
-    rows: &mut Bag,
+    rows: &mut BTreeMap<Row, i128>,
     later: &mut Updates,
     since: Time,
     upper: Time,
     left: usize,
 ) -> Result<usize, AllocError>
     requires before { IsBefore upper later.old }
-    requires fits { FitsFrom since (behind rows.old later.old) }
-    ensures before { OnOk result (IsBefore upper later.new) }
-    ensures same { OnOk result
-        (SameFrom since (behind rows.new later.new) (behind rows.old later.old)) }
-    ensures rows { OnErr result (rows.new ≡ rows.old) }
-    ensures later { OnErr result (later.new ≡ later.old) }
+    requires fits { FitsFrom since (behind rows.old.entries later.old) }
+    ensures before { IsBefore upper later.new }
+    ensures same { SameFrom since
+        (behind rows.new.entries later.new) (behind rows.old.entries later.old) }
 {
     if later.len() / 2 <= left {
         return Ok(left);
@@ -115,13 +114,40 @@ pub fn fold(
     Ok(later.len())
 }
 
-/// The rows of a bag as updates at the first time, and a copy of updates behind them.
-/// O(n log n), where the bag has n rows, and O(k), where there are k updates.
-pub fn listed(alloc: Global, rows: &Bag, later: &Updates) -> Result<Updates, AllocError>
-    ensures { IfOk result (λ all. all ≡ behind rows.now later.now) }
+/// Puts a copy of a row, with its count as the diff at the first time, behind updates.
+pub fn push_row(
+    alloc: Global,
+    updates: &mut Updates,
+    row: &Row,
+    count: i128,
+) -> Result<(), AllocError>
+    ensures { OnOk result (updates.new ≡ updates.old ++ stamp 0 (row.now, count) ∷ []) }
+{
+    updates.push(row.try_copy(alloc)?, Time::zero(), count)?;
+    Ok(())
+}
+
+// The rows as updates at the first time, in order.
+fn stamped_rows(alloc: Global, rows: &BTreeMap<Row, i128>) -> Result<Updates, AllocError>
+    ensures { IfOk result (λ all. all ≡ stamped 0 rows.now.entries) }
 {
     let mut all = Updates::empty(alloc);
-    all.append(Time::zero(), rows.counted()?)?;
+    'rows: for (row, count) in rows.iter() {
+        push_row(alloc, &mut all, row, *count)?;
+    }
+    Ok(all)
+}
+
+/// The rows as updates at the first time, and a copy of updates behind them.
+/// O(n + k), where there are n rows and k updates.
+pub fn listed(
+    alloc: Global,
+    rows: &BTreeMap<Row, i128>,
+    later: &Updates,
+) -> Result<Updates, AllocError>
+    ensures { IfOk result (λ all. all ≡ behind rows.now.entries later.now) }
+{
+    let mut all = stamped_rows(alloc, rows)?;
     push_all(&mut all, later.try_copy(alloc)?)?;
     Ok(all)
 }

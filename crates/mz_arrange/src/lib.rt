@@ -5,6 +5,7 @@
 
 mod arrangement;
 mod keeping;
+mod ordered;
 mod seeking;
 
 pub use arrangement::Arrangement;

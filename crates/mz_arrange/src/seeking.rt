@@ -1,18 +1,14 @@
 //! What a key finds.
 ghost use Rattle.std.specs.Prelude.{◌≡◌, ◌++◌, ◌∷◌, [], IfOk, OnOk};
-ghost use Rattle.std.specs.List.{IsDistinct};
-ghost use Rattle.indexmap.specs.IndexMap.{keys};
-ghost use Rattle.mz_value.specs.Row.{row_eq};
 ghost use Rattle.mz_updates.specs.Contents.{stamped};
 ghost use Rattle.mz_arrange.specs.Arranged.{begins_with, of_key};
-ghost use Rattle.mz_arrange.specs.Kept.{found, AreRowsOfKey};
+ghost use Rattle.mz_arrange.specs.Kept.{found};
 
-use indexmap::IndexMap;
-use mz_bag::Bag;
-use mz_time::Time;
+use crate::keeping::push_row;
 use mz_updates::{Update, Updates};
 use mz_value::{Row, TryCopy};
 use std::alloc::{AllocError, Global};
+use std::collections::BTreeMap;
 
 // Whether a row begins with the values of a key.
 fn begins_with(key: &Row, row: &Row) -> bool
@@ -42,30 +38,22 @@ pub fn found(alloc: Global, updates: &[Update], key: &Row) -> Result<Updates, Al
     Ok(copy)
 }
 
-// A copy of the rows that begin with the values of a key, each with its count as the diff at the first time.
-fn found_counts(
+/// A copy of the rows that begin with the values of a key, each with its count as the diff at the
+/// first time. They stand side by side, so it takes O(log n + k), where k of n rows are of the key.
+pub fn found_rows(
     alloc: Global,
-    counts: &IndexMap<Row, i128>,
+    rows: &BTreeMap<Row, i128>,
     key: &Row,
 ) -> Result<Updates, AllocError>
-    ensures found { IfOk result (λ copy. copy ≡ stamped 0 (of_key key.now counts.now.entries)) }
-    ensures once { IsDistinct row_eq (keys counts.now) }
+    ensures { IfOk result (λ copy. copy ≡ stamped 0 (of_key key.now rows.now.entries)) }
 {
-    let _len = counts.len();
     let mut copy = Updates::empty(alloc);
-    'counts: for (row, count) in counts.iter() {
-        if begins_with(key, row) {
-            copy.push(row.try_copy(alloc)?, Time::zero(), *count)?;
+    'rows: for (row, count) in rows.range(key..) {
+        let is_of_key = begins_with(key, row);
+        if !is_of_key {
+            return Ok(copy);
         }
+        push_row(alloc, &mut copy, row, *count)?;
     }
-    Ok(copy)
-}
-
-/// A copy of a bag's rows that begin with the values of a key, each with its count as the diff at the first time.
-/// O(n), where the bag has n rows.
-pub fn found_rows(alloc: Global, rows: &Bag, key: &Row) -> Result<Updates, AllocError>
-    ensures { IfOk result (λ copy. AreRowsOfKey key.now rows.now copy) }
-{
-    let copy = found_counts(alloc, rows.counts(), key)?;
     Ok(copy)
 }
