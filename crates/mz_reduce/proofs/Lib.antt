@@ -1,0 +1,6 @@
+pub mod CountingLaws
+pub mod FewTables
+pub mod GroupLaws
+pub mod GroupRoom
+pub mod KeptGroups
+pub mod RegroupLaws

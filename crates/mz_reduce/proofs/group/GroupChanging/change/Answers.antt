@@ -1,0 +1,29 @@
+use Rattle.std.proofs.Common.{ap, ◌∙◌}
+use Rattle.mz_reduce.specs.Grouping.{taken, AreRegrouped}
+use Rattle.mz_reduce.proofs.GroupLaws.{regrouped_change, regrouped_same, regrouped_within, room_of, room_same}
+use Rattle.mz_reduce.proofs.group.GroupChanging.change.Goals as goal
+use Rattle.mz_reduce.proofs.group.GroupChanging.change.Goals.{After-drop-right-inside-2}
+
+-- there is room for the rows that are taken
+pub regrouped-requires : goal.regrouped-requires
+regrouped-requires c =
+    room_same c.args.self.now.places c.as_slice-places.result.now c.args.self.now.aggregates c.as_slice-aggregates.result.now c.args.self.now.groups
+    c.args.left c.keep_taken.new.rows.items
+    (room_of c.args.self.now.places c.args.self.now.aggregates c.args.self.now.groups c.args.left c.args._right c.requires)
+    c.as_slice-places.ensures c.as_slice-aggregates.ensures
+    (c.keep_taken.ensures ∙ ap (taken c.as_slice-aggregates.result.now) c.into_vec-rows.ensures)
+
+-- and their groups have changed
+whole : (c : After-drop-right-inside-2) → AreRegrouped c.args.self.now.places c.args.self.now.aggregates c.args.self.now.groups c.regrouped.new.groups
+    (taken c.args.self.now.aggregates c.args.left) c.from_vec.result
+whole c =
+    regrouped_same c.args.self.now.places c.as_slice-places.result.now c.args.self.now.aggregates c.as_slice-aggregates.result.now
+    c.args.self.now.groups c.regrouped.new.groups c.keep_taken.new.rows.items c.args.left c.in_ok-out.out.items c.from_vec.result
+    c.in_ok-out.ensures c.as_slice-places.ensures c.as_slice-aggregates.ensures
+    (c.keep_taken.ensures ∙ ap (taken c.as_slice-aggregates.result.now) c.into_vec-rows.ensures) c.from_vec.ensures
+
+pub returns-clause-law : goal.returns-clause-law
+returns-clause-law c = regrouped_change _ _ _ _ _ _ _ (whole c)
+
+pub returns-clause-light : goal.returns-clause-light
+returns-clause-light c = regrouped_within _ _ _ _ _ _ _ (whole c)
