@@ -1,4 +1,4 @@
-//! What no clause says: times worked by hand, and that room is made.
+//! What no clause says: times worked by hand, and that room is made where there is memory.
 ghost use Rattle.std.specs.Prelude.{◌≡◌};
 
 use mz_counted::Counted;
@@ -37,5 +37,18 @@ fn the_least_goes_up(rt: HostRuntime) -> Result<(), Fail> {
     assert_eq!(rt; counted.least(), Frontier::At(seven));
     remove(&rt, &mut counted, seven);
     assert_eq!(rt; counted.least(), Frontier::Done);
+    Ok(())
+}
+
+#[test]
+fn without_room_the_times_stay(rt: HostRuntime) -> Result<(), Fail> {
+    let mut counted = Counted::empty(rt.alloc());
+    counted.reserve(1)?;
+    let five = time(&rt, 5);
+    counted.insert(five);
+    let no_room = counted.reserve(usize::MAX).is_err();
+    assert!(rt; no_room);
+    assert_eq!(rt; counted.total(), 1);
+    assert_eq!(rt; counted.least(), Frontier::At(five));
     Ok(())
 }

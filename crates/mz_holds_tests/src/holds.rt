@@ -1,29 +1,67 @@
-//! What no clause says: that holds are taken where there is memory, and policies and holds worked by hand.
+//! What no clause says: that holds are taken where there is memory, and are as before where there is none; policies and holds worked by hand.
 
 use crate::counted::time;
 use mz_holds::{HoldTable, Policy};
 use mz_statement::Keep;
-use mz_time::Frontier;
+use mz_time::{Frontier, Time};
+use std::alloc::AllocError;
+use std::process::Abort;
 use std::test::Fail;
+
+// Takes a hold. Where there is no memory for it, the holds are as before, and it is taken once more.
+fn acquire(
+    rt: &impl Abort,
+    holds: &mut HoldTable,
+    collection: u64,
+    t: Time,
+) -> Result<u64, AllocError> {
+    let (live, total) = (holds.live().len(), holds.total(collection));
+    if let Ok(hold) = holds.acquire(collection, t) {
+        return Ok(hold);
+    }
+    assert_eq!(rt; holds.live().len(), live);
+    assert_eq!(rt; holds.total(collection), total);
+    holds.acquire(collection, t)
+}
+
+// The same for a session.
+fn acquire_for(
+    rt: &impl Abort,
+    holds: &mut HoldTable,
+    session: u64,
+    collection: u64,
+    t: Time,
+) -> Result<u64, AllocError> {
+    let (live, total) = (holds.live().len(), holds.total(collection));
+    if let Ok(hold) = holds.acquire_for(session, collection, t) {
+        return Ok(hold);
+    }
+    assert_eq!(rt; holds.live().len(), live);
+    assert_eq!(rt; holds.total(collection), total);
+    holds.acquire_for(session, collection, t)
+}
 
 #[test]
 fn holds_are_counted_and_taken_back(rt: HostRuntime) -> Result<(), Fail> {
     let mut holds = HoldTable::empty(rt.alloc());
     let (five, seven) = (time(&rt, 5), time(&rt, 7));
-    assert_eq!(rt; holds.acquire(1, seven)?, 1);
-    assert_eq!(rt; holds.acquire(1, five)?, 2);
-    assert_eq!(rt; holds.acquire_for(9, 3, five)?, 3);
+    assert_eq!(rt; acquire(&rt, &mut holds, 1, seven)?, 1);
+    assert_eq!(rt; acquire(&rt, &mut holds, 1, five)?, 2);
+    assert_eq!(rt; acquire_for(&rt, &mut holds, 9, 3, five)?, 3);
     assert_eq!(rt; holds.count(1, five), 1);
     assert_eq!(rt; holds.total(1), 2);
     assert_eq!(rt; holds.least(1), Frontier::At(five));
     assert_eq!(rt; holds.least(2), Frontier::Done);
     holds.mark();
-    assert_eq!(rt; holds.acquire(2, five)?, 4);
+    assert_eq!(rt; acquire(&rt, &mut holds, 2, five)?, 4);
+    assert_eq!(rt; acquire_for(&rt, &mut holds, 9, 1, five)?, 5);
     assert_eq!(rt; holds.least(2), Frontier::At(five));
+    assert_eq!(rt; holds.count(1, five), 2);
     holds.back();
     assert_eq!(rt; holds.least(2), Frontier::Done);
+    assert_eq!(rt; holds.count(1, five), 1);
     assert_eq!(rt; holds.live().len(), 3);
-    assert_eq!(rt; holds.acquire(2, seven)?, 4);
+    assert_eq!(rt; acquire(&rt, &mut holds, 2, seven)?, 4);
     Ok(())
 }
 
