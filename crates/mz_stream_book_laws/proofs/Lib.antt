@@ -1,0 +1,5 @@
+pub mod Alone
+pub mod Joinings
+pub mod Live
+pub mod Steps
+pub mod Told
