@@ -1,0 +1,15 @@
+//! The tests of groups and of distinct rows: what no clause says of them.
+//! Promises nothing by code, and has none. The tests stand apart from the crate that they try, so that a gate proves it once.
+//! Stands on `mz_reduce`, `mz_eval` and what these stand on.
+#![tactic(auto)]
+
+#[cfg(test)]
+mod any;
+#[cfg(test)]
+mod random;
+#[cfg(test)]
+mod texts;
+#[cfg(test)]
+mod told;
+#[cfg(test)]
+mod worked;
