@@ -22,10 +22,12 @@ use Rattle.mz_plan_laws.proofs.OperatorLaws.{filter_linear}
 use Rattle.mz_keyed.specs.Keyed.{Keyed, AreKept}
 use Rattle.mz_keyed.proofs.KeyedLaws.{kept_none, kept_same}
 use Rattle.mz_ops.specs.Change.{IsBearable, IsChange, IsWithin}
-use Rattle.mz_reduce.specs.Grouping.{grouped_ints, is_taken, sums_ints, taken, AreGroups, AreRegrouped, HasRoom}
+use Rattle.mz_reduce.specs.Grouping.{grouped_ints, is_taken, sums_ints, taken, AreRegrouped, HasRoom}
 use Rattle.mz_reduce.specs.Laws.{group_load}
+use Rattle.mz_reduce.specs.Totals.{AreKeptGroups, AreTotals, KeyTotals}
 use Rattle.mz_reduce.proofs.GroupRoom.{ints_bounded}
 use Rattle.mz_reduce.proofs.KeptGroups.{regrouped_gives, regrouped_mass}
+use Rattle.mz_reduce.proofs.TotalsLaws.{none_totals}
 
 -- ---- the rows that are taken
 
@@ -106,12 +108,12 @@ both_ints aggregates (v ∷ vs) ws h k = (h.0, both_ints aggregates vs ws h.1 k)
 -- ---- a change
 
 -- what is bearable has room
-pub room_of : (places : List ℕ) (aggregates : List Aggregate) (groups : Keyed) (left right : Weighted)
-    → IsBearable (λ ls rs. AreGroups places aggregates groups ls) group_load left right
+pub room_of : (places : List ℕ) (aggregates : List Aggregate) (groups : Keyed) (totals : KeyTotals) (left right : Weighted)
+    → IsBearable (λ ls rs. AreKeptGroups places aggregates groups totals ls) group_load left right
     → HasRoom places aggregates groups (taken aggregates left)
-room_of places aggregates groups left right h = record {
+room_of places aggregates groups totals left right h = record {
   ws = filtered (sums_ints aggregates) h.first;
-  kept = h.stand;
+  kept = h.stand.rows;
   bounded = ints_bounded aggregates (filtered (sums_ints aggregates) h.first ++ taken aggregates left)
       (both_ints aggregates (filtered (sums_ints aggregates) h.first) (taken aggregates left) (filtered_ints aggregates h.first) (taken_ints aggregates left))
       (omega (
@@ -132,24 +134,28 @@ more_alike aggregates ls left q =
     ∙ sym ((filter_linear (sums_ints aggregates)).adds ls left q)
 
 -- what was regrouped is a change
-pub regrouped_change : (places : List ℕ) (aggregates : List Aggregate) (groups now : Keyed) (left right out : Weighted)
-    → AreRegrouped places aggregates groups now (taken aggregates left) out
-    → IsChange (λ ls rs. grouped_ints places aggregates ls) (λ ls rs. AreGroups places aggregates groups ls)
-    (λ ls rs. AreGroups places aggregates now ls) left right out
-regrouped_change places aggregates groups now left right out h = record {
-  stands = λ ls rs k. kept_same places now (filtered (sums_ints aggregates) ls ++ taken aggregates left)
-      (filtered (sums_ints aggregates) (ls ++ left)) (more_alike aggregates ls left) (h.came.keeps (filtered (sums_ints aggregates) ls) k);
+pub regrouped_change : (places : List ℕ) (aggregates : List Aggregate) (groups now : Keyed) (totals numbers : KeyTotals)
+    (left right out : Weighted) → AreRegrouped places aggregates groups now (taken aggregates left) out → AreTotals aggregates now numbers
+    → IsChange (λ ls rs. grouped_ints places aggregates ls) (λ ls rs. AreKeptGroups places aggregates groups totals ls)
+    (λ ls rs. AreKeptGroups places aggregates now numbers ls) left right out
+regrouped_change places aggregates groups now totals numbers left right out h sums = record {
+  stands = λ ls rs k. record {
+    rows = kept_same places now (filtered (sums_ints aggregates) ls ++ taken aggregates left)
+        (filtered (sums_ints aggregates) (ls ++ left)) (more_alike aggregates ls left)
+        (h.came.keeps (filtered (sums_ints aggregates) ls) k.rows);
+    totals_are = sums;
+  };
   gives = λ ls rs k q.
       ap (count q) (sym (grouped_same places aggregates (filtered (sums_ints aggregates) ls ++ taken aggregates left)
       (filtered (sums_ints aggregates) (ls ++ left)) (more_alike aggregates ls left)))
-      ∙ regrouped_gives places aggregates groups now (taken aggregates left) out (filtered (sums_ints aggregates) ls) h k q;
+      ∙ regrouped_gives places aggregates groups now (taken aggregates left) out (filtered (sums_ints aggregates) ls) h k.rows q;
 }
 
 -- of little mass
-pub regrouped_within : (places : List ℕ) (aggregates : List Aggregate) (groups now : Keyed) (left right out : Weighted)
-    → AreRegrouped places aggregates groups now (taken aggregates left) out
-    → IsWithin (λ ls rs. AreGroups places aggregates groups ls) group_load left right out
-regrouped_within places aggregates groups now left right out h = record {
+pub regrouped_within : (places : List ℕ) (aggregates : List Aggregate) (groups now : Keyed) (totals : KeyTotals)
+    (left right out : Weighted) → AreRegrouped places aggregates groups now (taken aggregates left) out
+    → IsWithin (λ ls rs. AreKeptGroups places aggregates groups totals ls) group_load left right out
+regrouped_within places aggregates groups now totals left right out h = record {
   most = λ ls rs k. omega (
     arith,
     regrouped_mass places aggregates groups now (taken aggregates left) out h,
@@ -173,9 +179,18 @@ room_same places ps aggregates ags groups left rows h e f g =
     subst (λ ws. HasRoom ps ags groups ws) (sym g) (subst (λ qs. HasRoom qs ags groups (taken ags left)) (sym e)
     (subst (λ xs. HasRoom places xs groups (taken xs left)) (sym f) h))
 
+-- totals under the names that the code has
+pub totals_same : (aggregates ags : List Aggregate) (groups : Keyed) (totals : KeyTotals) → AreTotals aggregates groups totals
+    → ags ≡ aggregates → AreTotals ags groups totals
+totals_same aggregates ags groups totals h same = subst (λ xs. AreTotals xs groups totals) (sym same) h
+
 -- without a row nothing is kept
-pub none_kept : (places : List ℕ) (aggregates : List Aggregate) (groups : Keyed) → groups ≡ [] → AreGroups places aggregates groups []
-none_kept places aggregates groups none = subst (λ es. AreKept places es []) (sym none) (kept_none places)
+pub none_kept : (places : List ℕ) (aggregates : List Aggregate) (groups : Keyed) (totals : KeyTotals) → groups ≡ [] → totals ≡ []
+    → AreKeptGroups places aggregates groups totals []
+none_kept places aggregates groups totals none nothing = record {
+  rows = subst (λ es. AreKept places es []) (sym none) (kept_none places);
+  totals_are = none_totals aggregates groups totals none nothing;
+}
 
 -- ---- INTs alone
 

@@ -4,3 +4,4 @@ pub mod GroupLaws
 pub mod GroupRoom
 pub mod KeptGroups
 pub mod RegroupLaws
+pub mod TotalsLaws

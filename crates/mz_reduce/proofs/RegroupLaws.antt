@@ -1,6 +1,7 @@
 -- Where only rows with some keys change, only the groups of these keys do.
 use Rattle.std.proofs.Common.{◌≡◌, ◌≢◌, ℕ, ◌≤◌, ℤ, pos, negsuc, ◌+ℤ◌, Bool, true, false, cond, ◌&&◌, ◌||◌, List, [], ◌∷◌, ◌++◌, take, length, map, flat_map, refl, sym, ap, ◌∙◌, true≢false, arith}
 use Rattle.std.proofs.lemmas.Int.{ints}
+use Rattle.std.proofs.lemmas.List.{append-nil}
 use Rattle.std.proofs.Math.Seq.{take-append_seam}
 use Rattle.std.specs.Cmp.{signed_Decides}
 use Rattle.std.specs.FinMap.{empty, entries}
@@ -80,6 +81,12 @@ pub shown_some : (aggregates : List Aggregate) (key : List Datum) (weight : ℤ)
     → shown aggregates key weight group ≡ (key ++ map (aggregate_of group) aggregates, weight) ∷ []
 shown_some aggregates key weight [] some = absurd (omega (arith, some))
 shown_some aggregates key weight (e ∷ group) some = refl
+
+-- one without rows isn't
+pub shown_none : (aggregates : List Aggregate) (key : List Datum) (weight : ℤ) (group out : Weighted) → length group ≡ 0
+    → out ≡ out ++ shown aggregates key weight group
+shown_none aggregates key weight [] out none = sym (append-nil out)
+shown_none aggregates key weight (e ∷ group) out none = absurd (omega (arith, none))
 
 -- a row is the group's whose key it begins with
 abbrev is_shown : List ℕ → List Aggregate → Weighted → List Datum → List Datum → Bool

@@ -11,7 +11,8 @@ use Rattle.mz_keyed.specs.Keyed.{Keyed}
 use Rattle.mz_keyed.proofs.KeyedLaws.{kept_same}
 use Rattle.mz_ops.specs.Change.{IsLoad, Load, ReadsCounts}
 use Rattle.mz_reduce.specs.Counting.{IsCountOf}
-use Rattle.mz_reduce.specs.Grouping.{grouped_ints, sums_ints, AreGroups}
+use Rattle.mz_reduce.specs.Grouping.{grouped_ints, sums_ints}
+use Rattle.mz_reduce.specs.Totals.{AreKeptGroups, KeyTotals}
 
 -- ---- what is read
 
@@ -23,15 +24,17 @@ distinct_reads bag = record {
 }
 
 -- groups read counts, and stand for rows that are kept by their keys
-pub group_reads : (places : List ℕ) (aggregates : List Aggregate) (groups : Keyed)
-    → ReadsCounts (λ ls rs. grouped_ints places aggregates ls) (λ ls rs. AreGroups places aggregates groups ls)
-group_reads places aggregates groups = record {
+pub group_reads : (places : List ℕ) (aggregates : List Aggregate) (groups : Keyed) (totals : KeyTotals)
+    → ReadsCounts (λ ls rs. grouped_ints places aggregates ls) (λ ls rs. AreKeptGroups places aggregates groups totals ls)
+group_reads places aggregates groups totals = record {
   gives = λ ls rs ms ns h k q. ap (count q)
       (grouped_same places aggregates (filtered (sums_ints aggregates) ls) (filtered (sums_ints aggregates) ms)
       (filter_alike (sums_ints aggregates) ls ms h));
-  keeps = λ ls rs ms ns h k s.
-      kept_same places groups (filtered (sums_ints aggregates) ls) (filtered (sums_ints aggregates) ms)
-      (filter_alike (sums_ints aggregates) ls ms h) s;
+  keeps = λ ls rs ms ns h k s. record {
+    rows = kept_same places groups (filtered (sums_ints aggregates) ls) (filtered (sums_ints aggregates) ms)
+        (filter_alike (sums_ints aggregates) ls ms h) s.rows;
+    totals_are = s.totals_are;
+  };
 }
 
 -- ---- loads

@@ -6,9 +6,11 @@ ghost use Rattle.mz_plan.specs.Value.{cells};
 ghost use Rattle.mz_keyed.specs.Keyed.{rows_of};
 ghost use Rattle.mz_reduce.specs.Grouping.{grouped_ints, AreBounded, AreIn, AreRegrouped};
 ghost use Rattle.mz_reduce.specs.Grouping.{HasRoom, IsRowIn, IsTouched};
+ghost use Rattle.mz_reduce.specs.Totals.{AreTotals};
 
 use crate::showing::{keep_taken, push_all, push_shown};
-use indexmap::IndexSet;
+use crate::totals::{Totals, next_totals, put_back};
+use indexmap::{IndexMap, IndexSet};
 use mz_bag::CountedRows;
 use mz_keyed::KeyedRows;
 use mz_ops::{Changing, Operator, Timed};
@@ -19,13 +21,15 @@ use mz_value::{Row, TryCopy};
 use std::alloc::{AllocError, Global};
 
 /// Of the left rows of each key one row: the key, and behind it the aggregates of these rows. It
-/// keeps the rows by their keys, and takes none on the right. Rows whose number is larger than an
-/// INT where a SUM is taken are left out.
+/// keeps the rows by their keys, and of each key the totals, and takes none on the right. Rows whose
+/// number is larger than an INT where a SUM is taken are left out.
 #[derive(Drop)]
 pub struct Group {
     places: Places,
     aggregates: Aggregates,
     groups: KeyedRows,
+    // Each key with the totals of its group.
+    totals: IndexMap<Row, Totals>,
 }
 
 /// Groups that are told updates.
@@ -42,15 +46,17 @@ fn touch(
     key: &Row,
     aggregates: &[Aggregate],
     groups: &KeyedRows,
+    totals: &IndexMap<Row, Totals>,
 ) -> Result<(), AllocError>
-    requires { AreBounded aggregates.now (entries (rows_of groups.now key.now)) }
+    requires totals { AreTotals aggregates.now groups.now totals.now.entries }
+    requires bounded { AreBounded aggregates.now (entries (rows_of groups.now key.now)) }
     ensures { OnOk result (IsTouched aggregates.now groups.now key.now
         touched.old.keys touched.new.keys out.old.items out.new.items) }
 {
     if touched.contains(key) {
         return Ok(());
     }
-    push_shown(alloc, out, key, -1, aggregates, groups)?;
+    push_shown(alloc, out, key, -1, aggregates, groups, totals)?;
     touched.insert(key.try_copy(alloc)?)?;
     Ok(())
 }
@@ -65,16 +71,22 @@ fn row_in(
     places: &[u64],
     aggregates: &[Aggregate],
     groups: &mut KeyedRows,
+    totals: &mut IndexMap<Row, Totals>,
 ) -> Result<(), AllocError>
+    requires totals { AreTotals aggregates.now groups.old totals.old.entries }
     requires fits { Fits (count_in (rows_of groups.old (cells places.now row)) row +ℤ diff) }
     requires bounded { let group = rows_of groups.old (cells places.now row) in
         AreBounded aggregates.now (entries group) }
-    ensures { OnOk result (IsRowIn places.now aggregates.now groups.old groups.new row diff
+    ensures totals { OnOk result (AreTotals aggregates.now groups.new totals.new.entries) }
+    ensures row { OnOk result (IsRowIn places.now aggregates.now groups.old groups.new row diff
         touched.old.keys touched.new.keys out.old.items out.new.items) }
 {
     let key = cells(alloc, &row, places)?;
-    touch(alloc, out, touched, &key, aggregates, groups)?;
-    groups.add(key, row, diff)?;
+    touch(alloc, out, touched, &key, aggregates, groups, totals)?;
+    let numbers = next_totals(alloc, totals, &key, aggregates, &row, diff)?;
+    let kept = key.try_copy(alloc)?;
+    groups.add(kept, row, diff)?;
+    put_back(totals, key, numbers, groups)?;
     Ok(())
 }
 
@@ -87,16 +99,21 @@ fn all_in(
     places: &[u64],
     aggregates: &[Aggregate],
     groups: &mut KeyedRows,
+    totals: &mut IndexMap<Row, Totals>,
 ) -> Result<(), AllocError>
+    requires totals { AreTotals aggregates.now groups.old totals.old.entries }
     requires room { HasRoom places.now aggregates.now groups.old rows.items }
     requires untouched { touched.old.keys ≡ [] }
     requires none { out.old.items ≡ [] }
     ensures came { OnOk result (AreIn places.now aggregates.now groups.old groups.new rows.items
         touched.new.keys out.new.items) }
     ensures room { OnOk result (HasRoom places.now aggregates.now groups.new []) }
+    ensures totals { OnOk result (AreTotals aggregates.now groups.new totals.new.entries) }
 {
     'rows: for (row, diff) in rows {
-        row_in(alloc, out, touched, row, diff, places, aggregates, groups)?;
+        row_in(
+            alloc, out, touched, row, diff, places, aggregates, groups, totals,
+        )?;
     }
     Ok(())
 }
@@ -109,9 +126,12 @@ fn regrouped(
     places: &[u64],
     aggregates: &[Aggregate],
     groups: &mut KeyedRows,
+    totals: &mut IndexMap<Row, Totals>,
 ) -> Result<Vec<(Row, i128)>, AllocError>
-    requires { HasRoom places.now aggregates.now groups.old rows.items }
-    ensures { IfOk result (λ out. AreRegrouped places.now aggregates.now groups.old groups.new
+    requires totals { AreTotals aggregates.now groups.old totals.old.entries }
+    requires room { HasRoom places.now aggregates.now groups.old rows.items }
+    ensures totals { OnOk result (AreTotals aggregates.now groups.new totals.new.entries) }
+    ensures groups { IfOk result (λ out. AreRegrouped places.now aggregates.now groups.old groups.new
         rows.items out.items) }
 {
     let mut out = Vec::new(alloc);
@@ -124,8 +144,9 @@ fn regrouped(
         places,
         aggregates,
         groups,
+        totals,
     )?;
-    push_all(alloc, &mut out, &touched, aggregates, groups)?;
+    push_all(alloc, &mut out, &touched, aggregates, groups, totals)?;
     Ok(out)
 }
 
@@ -136,11 +157,13 @@ impl Group {
         ensures places { result.places ≡ places }
         ensures aggregates { result.aggregates ≡ aggregates }
         ensures groups { result.groups ≡ [] }
+        ensures totals { result.totals.entries ≡ [] }
     {
         Group {
             places,
             aggregates,
             groups: KeyedRows::empty(alloc),
+            totals: IndexMap::new(alloc),
         }
     }
 }
@@ -164,16 +187,17 @@ impl GroupOp {
 
 impl Changing for Group {
     ghost use Rattle.std.specs.Prelude.{refl};
-    ghost use Rattle.mz_reduce.specs.Grouping.{AreGroups};
+    ghost use Rattle.mz_reduce.specs.Totals.{AreKeptGroups};
     ghost use Rattle.mz_reduce.specs.Laws.{group_load, group_loads, group_reads};
 
     ghost meaning = { λ op ls rs. grouped_ints op.places op.aggregates ls };
 
-    ghost stands = { λ op ls rs. AreGroups op.places op.aggregates op.groups ls };
+    ghost stands = { λ op ls rs.
+        AreKeptGroups op.places op.aggregates op.groups op.totals.entries ls };
 
     ghost load = { λ op. group_load };
 
-    ghost reads = { λ op. group_reads op.places op.aggregates op.groups };
+    ghost reads = { λ op. group_reads op.places op.aggregates op.groups op.totals.entries };
 
     ghost loads = { λ op. group_loads };
 
@@ -187,7 +211,8 @@ impl Changing for Group {
         let places = self.places.as_slice();
         let aggregates = self.aggregates.as_slice();
         keep_taken(&mut rows, aggregates);
-        let out = regrouped(alloc, rows, places, aggregates, &mut self.groups)?;
+        let groups = &mut self.groups;
+        let out = regrouped(alloc, rows, places, aggregates, groups, &mut self.totals)?;
         Ok(CountedRows::from_vec(out))
     }
 }

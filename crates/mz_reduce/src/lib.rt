@@ -9,6 +9,7 @@ mod distinct;
 mod group;
 pub mod laws;
 mod showing;
+mod totals;
 
 pub use distinct::{Distinct, DistinctOp};
 pub use group::{Group, GroupOp};

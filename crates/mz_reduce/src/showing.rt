@@ -1,19 +1,24 @@
 //! The rows of groups, as they are shown.
-ghost use Rattle.std.specs.Prelude.{◌≡◌, ◌++◌, pos, List, OnOk};
+ghost use Rattle.std.specs.Prelude.{◌≡◌, ◌++◌, map, pos, List, IfOk, OnOk};
 ghost use Rattle.std.specs.FinMap.{entries};
 ghost use Rattle.std.specs.List.{AllByRecursion as Each, IsDistinct};
 ghost use Rattle.mz_value.specs.Row.{row_eq};
 ghost use Rattle.mz_value.specs.declared.datum.Datum.{Datum};
 ghost use Rattle.mz_bag.specs.Bag.{IsBag};
+ghost use Rattle.mz_bag.specs.Mass.{IsLight};
+ghost use Rattle.mz_plan.specs.Aggregate.{aggregate_of};
+ghost use Rattle.mz_plan.specs.Bound.{IsSummable};
 ghost use Rattle.mz_keyed.specs.Keyed.{rows_of};
 ghost use Rattle.mz_reduce.specs.Grouping.{is_taken, sums_int, sums_ints, taken};
 ghost use Rattle.mz_reduce.specs.Grouping.{all_shown, shown, AreBounded};
+ghost use Rattle.mz_reduce.specs.Totals.{told, totals_of, AreTotals, AreTotalsOf, IsTotalOf};
 
-use indexmap::IndexSet;
+use crate::totals::{Totals, zeros};
+use indexmap::{IndexMap, IndexSet};
 use mz_bag::Bag;
 use mz_keyed::KeyedRows;
-use mz_plan::{Aggregate, number_at, row_of_group};
-use mz_value::Row;
+use mz_plan::{Aggregate, aggregate_of, number_at};
+use mz_value::{Datum, Row, TryCopy};
 use std::alloc::{AllocError, Global};
 
 // The greatest size of an INT.
@@ -52,27 +57,46 @@ pub fn keep_taken(rows: &mut Vec<(Row, i128)>, aggregates: &[Aggregate])
     rows.retain(|entry| is_taken(entry, aggregates));
 }
 
-// Puts the row of a group behind others, where it has rows.
-fn push_row(
-    alloc: Global,
-    out: &mut Vec<(Row, i128)>,
-    key: &Row,
-    weight: i128,
-    aggregates: &[Aggregate],
-    group: &[(Row, i128)],
-) -> Result<(), AllocError>
-    requires { AreBounded aggregates.now group.now }
-    ensures { OnOk result
-        (out.new.items ≡ out.old.items ++ shown aggregates.now key.now weight group.now) }
+// What a bag of rows tells for an aggregate, by going through them.
+fn scanned(alloc: Global, aggregate: Aggregate, bag: &Bag) -> Result<Datum, AllocError>
+    requires light { IsLight (entries bag.now) }
+    requires summable { IsSummable (entries bag.now) aggregate }
+    ensures { IfOk result (λ value. value ≡ aggregate_of (entries bag.now) aggregate) }
 {
-    match group {
-        [] => {}
-        [_first, _rest @ ..] => {
-            let row = row_of_group(alloc, group, key, aggregates)?;
-            out.push((row, weight))?;
-        }
+    let rows = bag.counted()?;
+    aggregate_of(alloc, rows.as_slice(), aggregate)
+}
+
+// What a bag of rows tells for an aggregate, whose total over them is given.
+fn value_of(alloc: Global, total: &(Aggregate, i128), bag: &Bag) -> Result<Datum, AllocError>
+    requires light { IsLight (entries bag.now) }
+    requires total { IsTotalOf (entries bag.now) total.now }
+    ensures { IfOk result (λ value. value ≡ aggregate_of (entries bag.now) total.now.0) }
+{
+    match total.0 {
+        Aggregate::Count => Ok(Datum::Wide(total.1)),
+        Aggregate::Sum(_) => Ok(Datum::Wide(total.1)),
+        Aggregate::Min(_) => scanned(alloc, total.0, bag),
+        Aggregate::Max(_) => scanned(alloc, total.0, bag),
     }
-    Ok(())
+}
+
+// The row of a group, of which the totals are given: its key, and behind it the aggregates.
+fn row_of_totals(
+    alloc: Global,
+    key: &Row,
+    totals: &[(Aggregate, i128)],
+    bag: &Bag,
+) -> Result<Row, AllocError>
+    requires { AreTotalsOf (entries bag.now) totals.now }
+    ensures { IfOk result (λ row. row
+        ≡ key.now ++ map (aggregate_of (entries bag.now)) (told totals.now)) }
+{
+    let mut values = key.try_copy(alloc)?.into_vec();
+    'totals: for total in totals {
+        values.push(value_of(alloc, total, bag)?)?;
+    }
+    Ok(Row::from_vec(values))
 }
 
 // Puts the row of a bag's group behind others, where it has rows.
@@ -81,19 +105,50 @@ fn push_group(
     out: &mut Vec<(Row, i128)>,
     key: &Row,
     weight: i128,
-    aggregates: &[Aggregate],
+    totals: &[(Aggregate, i128)],
     bag: &Bag,
 ) -> Result<(), AllocError>
-    requires { AreBounded aggregates.now (entries bag.now) }
-    ensures shown { OnOk result
-        (out.new.items ≡ out.old.items ++ shown aggregates.now key.now weight (entries bag.now)) }
-    ensures bag { OnOk result (IsBag bag.now) }
+    requires { AreTotalsOf (entries bag.now) totals.now }
+    ensures shown { OnOk result (out.new.items
+        ≡ out.old.items ++ shown (told totals.now) key.now weight (entries bag.now)) }
+    ensures bag { IsBag bag.now }
 {
-    let group = bag.counted()?;
-    push_row(alloc, out, key, weight, aggregates, group.as_slice())
+    let count = bag.len();
+    let there = count > 0;
+    if there {
+        let row = row_of_totals(alloc, key, totals, bag)?;
+        out.push((row, weight))?;
+    }
+    Ok(())
 }
 
-/// Puts the row of a key's group behind others, where it has rows. O(n log n), where it has n rows.
+// Puts the row of a key's group behind others, where it has rows, by the totals that the key has.
+fn push_by_totals(
+    alloc: Global,
+    out: &mut Vec<(Row, i128)>,
+    key: &Row,
+    weight: i128,
+    aggregates: &[Aggregate],
+    totals: &IndexMap<Row, Totals>,
+    bag: &Bag,
+) -> Result<(), AllocError>
+    requires { AreTotalsOf (entries bag.now) (totals_of aggregates.now totals.now.entries key.now) }
+    ensures shown { OnOk result (out.new.items ≡ out.old.items
+        ++ shown (told (totals_of aggregates.now totals.now.entries key.now)) key.now weight
+        (entries bag.now)) }
+    ensures bag { OnOk result (IsBag bag.now) }
+{
+    match totals.get(key) {
+        Some(numbers) => push_group(alloc, out, key, weight, numbers.as_slice(), bag),
+        None => {
+            let numbers = zeros(alloc, aggregates)?;
+            push_group(alloc, out, key, weight, numbers.as_slice(), bag)
+        }
+    }
+}
+
+/// Puts the row of a key's group behind others, where it has rows. O(1) expected, and O(n log n)
+/// for each MIN and MAX, where the group has n rows.
 pub fn push_shown(
     alloc: Global,
     out: &mut Vec<(Row, i128)>,
@@ -101,14 +156,19 @@ pub fn push_shown(
     weight: i128,
     aggregates: &[Aggregate],
     groups: &KeyedRows,
+    totals: &IndexMap<Row, Totals>,
 ) -> Result<(), AllocError>
-    requires { AreBounded aggregates.now (entries (rows_of groups.now key.now)) }
+    requires bounded { AreBounded aggregates.now (entries (rows_of groups.now key.now)) }
+    requires totals { AreTotals aggregates.now groups.now totals.now.entries }
     ensures shown { OnOk result (out.new.items ≡ out.old.items
         ++ shown aggregates.now key.now weight (entries (rows_of groups.now key.now))) }
     ensures bag { OnOk result (IsBag (rows_of groups.now key.now)) }
 {
     match groups.get(key) {
-        Some(bag) => push_group(alloc, out, key, weight, aggregates, bag),
+        Some(bag) => {
+            push_by_totals(alloc, out, key, weight, aggregates, totals, bag)?;
+            Ok(())
+        }
         None => Ok(()),
     }
 }
@@ -120,15 +180,18 @@ pub fn push_all(
     keys: &IndexSet<Row>,
     aggregates: &[Aggregate],
     groups: &KeyedRows,
+    totals: &IndexMap<Row, Totals>,
 ) -> Result<(), AllocError>
-    requires { (key : List Datum) → AreBounded aggregates.now (entries (rows_of groups.now key)) }
+    requires totals { AreTotals aggregates.now groups.now totals.now.entries }
+    requires bounded { (key : List Datum)
+        → AreBounded aggregates.now (entries (rows_of groups.now key)) }
     ensures shown { OnOk result (out.new.items
         ≡ out.old.items ++ all_shown aggregates.now groups.now (pos 1) keys.now.keys) }
     ensures bags { OnOk result (Each (λ key. IsBag (rows_of groups.now key)) keys.now.keys) }
     ensures once { IsDistinct row_eq keys.now.keys }
 {
     'keys: for key in keys.iter() {
-        push_shown(alloc, out, key, 1, aggregates, groups)?;
+        push_shown(alloc, out, key, 1, aggregates, groups, totals)?;
     }
     Ok(())
 }

@@ -13,9 +13,12 @@ use Rattle.mz_reduce.proofs.group.all_in.Goals as goal
 pub rows-init : goal.rows-init
 rows-init c =
     let all : into_iter_items c.into_iter-row-iterator.result ≡ c.args.rows.items = search rules in
-    subst (λ (ws : Weighted). IsOn c.args.places.now c.args.aggregates.now c.args.groups.now c.args.groups.now c.args.rows.items ws c.args.touched.now.keys c.args.out.now.items) (sym all)
-    (begun c.args.places.now c.args.aggregates.now c.args.groups.now c.args.rows.items c.args.touched.now.keys c.args.out.now.items
-    c.requires.room c.requires.untouched c.requires.none)
+    record {
+      on = subst (λ (ws : Weighted). IsOn c.args.places.now c.args.aggregates.now c.args.groups.now c.args.groups.now c.args.rows.items ws c.args.touched.now.keys c.args.out.now.items) (sym all)
+          (begun c.args.places.now c.args.aggregates.now c.args.groups.now c.args.rows.items c.args.touched.now.keys c.args.out.now.items
+          c.requires.room c.requires.untouched c.requires.none);
+      totals_are = c.requires.totals;
+    }
 
 -- there is room for the next
 pub row_in-requires-clause-fits : goal.row_in-requires-clause-fits
@@ -23,13 +26,13 @@ row_in-requires-clause-fits c =
     let fits : SFits w128 c.in-Some.diff = search (rules, ints) in
     let step : into_iter_items c.rows.row-iterator ≡ (c.in-Some.row, c.in-Some.diff) ∷ into_iter_items c.next.new.self = search rules in
     rw to_z-of_z (room_fits c.args.places.now c.args.aggregates.now c.rows.groups c.in-Some.row c.in-Some.diff (into_iter_items c.next.new.self)
-    (subst (λ (ws : Weighted). HasRoom c.args.places.now c.args.aggregates.now c.rows.groups ws) step c.rows.invariant.room)
+    (subst (λ (ws : Weighted). HasRoom c.args.places.now c.args.aggregates.now c.rows.groups ws) step c.rows.invariant.on.room)
     (cells c.args.places.now c.in-Some.row))
 
 -- and its group is bounded
 pub row_in-requires-clause-bounded : goal.row_in-requires-clause-bounded
 row_in-requires-clause-bounded c =
-    room_bounded c.args.places.now c.args.aggregates.now c.rows.groups (into_iter_items c.rows.row-iterator) c.rows.invariant.room
+    room_bounded c.args.places.now c.args.aggregates.now c.rows.groups (into_iter_items c.rows.row-iterator) c.rows.invariant.on.room
     (cells c.args.places.now c.in-Some.row)
 
 -- and it comes in
@@ -37,10 +40,13 @@ pub rows-preserved : goal.rows-preserved
 rows-preserved c =
     let fits : SFits w128 c.in-Some.diff = search (rules, ints) in
     let step : into_iter_items c.rows.row-iterator ≡ (c.in-Some.row, c.in-Some.diff) ∷ into_iter_items c.next.new.self = search rules in
-    let one = rw to_z-of_z at c.in_ok-row_in.ensures in
-    one_more c.args.places.now c.args.aggregates.now c.args.groups.now c.rows.groups c.row_in.new.groups c.args.rows.items (into_iter_items c.next.new.self)
-    c.rows.touched.keys c.row_in.new.touched.keys c.rows.out.items c.row_in.new.out.items c.in-Some.row c.in-Some.diff
-    (subst (λ (ws : Weighted). IsOn c.args.places.now c.args.aggregates.now c.args.groups.now c.rows.groups c.args.rows.items ws c.rows.touched.keys c.rows.out.items) step c.rows.invariant) one
+    let one = rw to_z-of_z at c.in_ok-row_in.ensures.row in
+    record {
+      on = one_more c.args.places.now c.args.aggregates.now c.args.groups.now c.rows.groups c.row_in.new.groups c.args.rows.items (into_iter_items c.next.new.self)
+          c.rows.touched.keys c.row_in.new.touched.keys c.rows.out.items c.row_in.new.out.items c.in-Some.row c.in-Some.diff
+          (subst (λ (ws : Weighted). IsOn c.args.places.now c.args.aggregates.now c.args.groups.now c.rows.groups c.args.rows.items ws c.rows.touched.keys c.rows.out.items) step c.rows.invariant.on) one;
+      totals_are = c.in_ok-row_in.ensures.totals;
+    }
 
 -- till none is left
 pub returns-clause-came : goal.returns-clause-came
@@ -49,7 +55,7 @@ returns-clause-came c =
     let length_left : length (into_iter_items c.rows.row-iterator) ≡ 0 = search (rules, arith) in
     let none : into_iter_items c.rows.row-iterator ≡ [] = no_row (into_iter_items c.rows.row-iterator) length_left in
     (ended c.args.places.now c.args.aggregates.now c.args.groups.now c.rows.groups c.args.rows.items (into_iter_items c.rows.row-iterator)
-    c.rows.touched.keys c.rows.out.items c.rows.invariant none).0
+    c.rows.touched.keys c.rows.out.items c.rows.invariant.on none).0
 
 pub returns-clause-room : goal.returns-clause-room
 returns-clause-room c =
@@ -57,4 +63,4 @@ returns-clause-room c =
     let length_left : length (into_iter_items c.rows.row-iterator) ≡ 0 = search (rules, arith) in
     let none : into_iter_items c.rows.row-iterator ≡ [] = no_row (into_iter_items c.rows.row-iterator) length_left in
     (ended c.args.places.now c.args.aggregates.now c.args.groups.now c.rows.groups c.args.rows.items (into_iter_items c.rows.row-iterator)
-    c.rows.touched.keys c.rows.out.items c.rows.invariant none).1
+    c.rows.touched.keys c.rows.out.items c.rows.invariant.on none).1

@@ -9,5 +9,6 @@ returns-clause-fresh c = record {
   left = record { each = tt };
   right = record { each = tt };
   stand = none_kept c.fresh.result.core.places c.fresh.result.core.aggregates c.fresh.result.core.groups
-      (ap (λ (op : Group). op.groups) c.fresh.ensures.core ∙ c.of.ensures.groups);
+      c.fresh.result.core.totals.entries (ap (λ (op : Group). op.groups) c.fresh.ensures.core ∙ c.of.ensures.groups)
+      (ap (λ (op : Group). op.totals.entries) c.fresh.ensures.core ∙ c.of.ensures.totals);
 }
