@@ -1,0 +1,11 @@
+pub mod AddingLaws
+pub mod AlikeLaws
+pub mod BuildLaws
+pub mod FlowLaws
+pub mod LoopLaws
+pub mod OperatorNodes
+pub mod PlanForms
+pub mod PlanLoads
+pub mod PlanRuns
+pub mod RunLaws
+pub mod StackLaws

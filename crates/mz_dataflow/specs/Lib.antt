@@ -1,0 +1,4 @@
+pub mod Built
+pub mod Flow
+pub mod Nodes
+pub mod Run
