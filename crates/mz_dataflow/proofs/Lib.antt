@@ -2,6 +2,7 @@ pub mod AddingLaws
 pub mod AlikeLaws
 pub mod BuildLaws
 pub mod FlowLaws
+pub mod Flowing
 pub mod LoopLaws
 pub mod OperatorNodes
 pub mod PlanForms

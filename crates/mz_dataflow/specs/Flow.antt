@@ -1,10 +1,13 @@
 -- What runs at one time after another do, where leaves are lists of updates.
-use Rattle.std.specs.Prelude.{ℕ, List, ◌++◌}
+use Rattle.std.specs.Prelude.{ℕ, ◌+◌, ◌<◌, ◌≤◌, List, [], ◌++◌}
 use Rattle.mz_bag.specs.Weighted.{Weighted}
 use Rattle.mz_plan.specs.Meaning.{Leaves}
 use Rattle.mz_plan_laws.specs.Alike.{Alike, AreAlike}
 use Rattle.mz_updates.specs.declared.update.Update.{Update}
-use Rattle.mz_updates.specs.Contents.{contents, stamped, weights, IsBefore}
+use Rattle.mz_updates.specs.Contents.{changes, contents, stamped, weights, IsBefore}
+use Rattle.mz_dataflow.specs.Nodes.{after_nodes, stand_nodes, top}
+use Rattle.mz_dataflow.specs.Run.{bear_nodes}
+use Rattle.mz_dataflow.specs.declared.node.Node.{Node}
 
 -- the updates of each leaf, by its number
 abbrev pub LeafUpdates : Type 0
@@ -42,3 +45,17 @@ pub record IsFlowStep (made : Leaves → Weighted) (before after : LeafUpdates �
 pub record ReadsLeaves (made : Leaves → Weighted) (stand : Leaves → Type 0) : Type 0 where
   pub gives : (leaves others : Leaves) → AreAlike leaves others → Alike (made leaves) (made others)
   pub keeps : (leaves others : Leaves) → AreAlike leaves others → stand leaves → stand others
+
+-- ---- several times
+
+-- what nodes leave last on an empty stack
+abbrev pub put : List Node → Leaves → Weighted
+put nodes leaves = top (after_nodes leaves nodes [])
+
+-- runs from one time to another are within the bound: the nodes stand for some rows of the leaves before them, and at each
+-- time, over rows that count as those before it and after it, the load of each node is so
+pub record IsBearableFlow (nodes : List Node) (lower upper : ℕ) (given : LeafUpdates) : Type 0 where
+  pub rows : ℕ → Leaves
+  pub stand : stand_nodes (rows lower) nodes []
+  pub next : (t item : ℕ) → Alike (rows (t + 1) item) (rows t item ++ changes t (given item))
+  pub within : (t : ℕ) → lower ≤ t → t < upper → bear_nodes (rows t) (rows (t + 1)) nodes [] []
