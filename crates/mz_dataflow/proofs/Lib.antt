@@ -4,9 +4,11 @@ pub mod BuildLaws
 pub mod FlowLaws
 pub mod Flowing
 pub mod LoopLaws
+pub mod NextTime
 pub mod OperatorNodes
 pub mod PlanForms
 pub mod PlanLoads
 pub mod PlanRuns
+pub mod QueueLaws
 pub mod RunLaws
 pub mod StackLaws

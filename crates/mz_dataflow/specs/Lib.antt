@@ -1,4 +1,5 @@
 pub mod Built
 pub mod Flow
 pub mod Nodes
+pub mod Queues
 pub mod Run
