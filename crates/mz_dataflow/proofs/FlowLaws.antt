@@ -16,7 +16,7 @@ use Rattle.mz_dataflow.specs.Run.{IsChangeOf}
 -- ---- one time
 
 -- from the time on, a list before it and rows at it contain both
-at_on : (t time upper : ℕ) (us : List Update) (ws : Weighted) → IsBefore upper us → upper ≤ time → time ≤ t
+pub at_on : (t time upper : ℕ) (us : List Update) (ws : Weighted) → IsBefore upper us → upper ≤ time → time ≤ t
     → contents t (us ++ stamped time ws) ≡ weights us ++ ws
 at_on t time upper us ws h k l =
     contents-append t us (stamped time ws)

@@ -35,7 +35,7 @@ sooner_low (Some t) (Some u) time h = by (nat_le t u) refl (ap time_of h)
     by false e k = let less : u < t = grind (arith, nat_tests) in (omega (arith, k, less), omega (arith, k))
 
 -- no updates are consolidated
-none_once : IsConsolidated []
+pub none_once : IsConsolidated []
 unfolding IsStrictlySortedBy
 none_once = record { in_order = tt; no_zero = tt }
 

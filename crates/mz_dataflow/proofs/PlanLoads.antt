@@ -1,7 +1,7 @@
 -- A plan over few tables, none of which is large, has loads within the bound.
 use Rattle.std.proofs.Common.{ℕ, ◌+◌, ◌≤◌, ◌^◌, le_trans, arith}
 use Rattle.std.proofs.Math.Nat.{pow-le-pow_right}
-use Rattle.mz_bag.specs.Mass.{mass}
+use Rattle.mz_bag.specs.Mass.{mass, IsLight}
 use Rattle.mz_bag.proofs.MassLaws.{mass_append}
 use Rattle.mz_plan.specs.Condition.{holds}
 use Rattle.mz_plan.specs.Meaning.{Leaves}
@@ -45,6 +45,13 @@ ints_weigh reads leaves (Distinct' s (more_of-Plan plan end_of-Plan)) h =
 -- a power of what a table may have, of few tables
 power_few : (tables : ℕ) → tables ≤ most_tables → most_rows ^ tables ≤ most_rows ^ most_tables
 power_few tables few = pow-le-pow_right {n = most_rows} (omega arith) {i = tables} {j = most_tables} few
+
+-- so the rows of a plan that reads few tables are light
+pub few_light : (reads : ℕ → ℕ) (leaves : Leaves) (plan : Plan) → tables_read reads plan ≤ most_tables → AreFew reads leaves plan
+    → IsLight (meaning_of_ints leaves plan)
+few_light reads leaves plan few h = record {
+  within = omega (arith, (ints_weigh reads leaves plan h).within, power_few (tables_read reads plan) few);
+}
 
 -- a change of what reads few tables
 sum_few : (tables old new : ℕ) → tables ≤ most_tables → old ≤ most_rows ^ tables → new ≤ most_rows ^ tables → old + new + 0 ≤ 2 ^ 100

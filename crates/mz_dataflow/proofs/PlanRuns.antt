@@ -57,7 +57,16 @@ fresh_stand [] stack h k = tt
 fresh_stand (n ∷ nodes) stack h k =
     (fresh_stands n stack h.0 k, fresh_stand nodes (after_node (λ item. []) n stack) h.1 (fresh_after n stack h.0 k))
 
--- so built nodes stand for leaves without a row
+nodes_none : (nodes : List Node) (stack : List Weighted) → Each IsFresh nodes → AreNone stack → AreNone (after_nodes (λ item. []) nodes stack)
+nodes_none [] stack h k = k
+nodes_none (n ∷ nodes) stack h k = nodes_none nodes (after_node (λ item. []) n stack) h.1 (fresh_after n stack h.0 k)
+
+-- so a plan over leaves without a row has none
+pub built_none : (plan : Plan) (nodes : List Node) → IsBuilt plan [] nodes → meaning_of_ints (λ item. []) plan ≡ []
+built_none plan nodes h =
+    ap top (sym (h.puts.puts (λ item. []) [])) ∙ top_none (after_nodes (λ item. []) h.more []) (nodes_none h.more [] h.fresh tt)
+
+-- and built nodes stand for these
 pub built_stand : (plan : Plan) (nodes : List Node) → IsBuilt plan [] nodes → stand_nodes (λ item. []) nodes []
 built_stand plan nodes h = subst (λ ns. stand_nodes (λ item. []) ns []) (sym h.behind) (fresh_stand h.more [] h.fresh tt)
 

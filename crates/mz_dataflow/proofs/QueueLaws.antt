@@ -14,14 +14,14 @@ use Rattle.mz_dataflow.specs.Run.{changes_of, IsOnce}
 pub taken_each : (time : ℕ) (qs : List (ℕ × List Update)) (cs : List (ℕ × Weighted)) (rs : List (ℕ × List Update)) → AreTaken time qs cs rs
     → (item : ℕ) → IsRun time (updates_of qs item) (changes_of cs item) (updates_of rs item)
 taken_each time [] [] [] h item = record { whole = refl; ended = refl }
-taken_each time (q ∷ qs) (c ∷ cs) (r ∷ rs) h item = by (q.0 == item) refl (taken_each time qs cs rs h.3 item)
+taken_each time (q ∷ qs) (c ∷ cs) (r ∷ rs) h item = by (q.0 == item) refl (taken_each time qs cs rs h.1 item)
   where
     by : (b : Bool) → (q.0 == item) ≡ b → IsRun time (updates_of qs item) (changes_of cs item) (updates_of rs item)
         → IsRun time (cond b q.1 (updates_of qs item)) (cond (c.0 == item) c.1 (changes_of cs item)) (cond (r.0 == item) r.1 (updates_of rs item))
     by true e k = subst (λ (p : Bool × Bool). IsRun time q.1 (cond p.0 c.1 (changes_of cs item)) (cond p.1 r.1 (updates_of rs item)))
-        (sym (λ i. ((ap (λ n. n == item) h.0 ∙ e) i, (ap (λ n. n == item) h.1 ∙ e) i))) h.2
+        (sym (λ i. ((ap (λ n. n == item) h.0.number ∙ e) i, (ap (λ n. n == item) h.0.same ∙ e) i))) h.0.run
     by false e k = subst (λ (p : Bool × Bool). IsRun time (updates_of qs item) (cond p.0 c.1 (changes_of cs item)) (cond p.1 r.1 (updates_of rs item)))
-        (sym (λ i. ((ap (λ n. n == item) h.0 ∙ e) i, (ap (λ n. n == item) h.1 ∙ e) i))) k
+        (sym (λ i. ((ap (λ n. n == item) h.0.number ∙ e) i, (ap (λ n. n == item) h.0.same ∙ e) i))) k
 taken_each time [] [] (r ∷ rs) h item = absurd h
 taken_each time [] (c ∷ cs) rs h item = absurd h
 taken_each time (q ∷ qs) [] rs h item = absurd h
@@ -36,7 +36,7 @@ pub taken_once : (lower upper time : ℕ) (qs : List (ℕ × List Update)) (cs :
     → AreTaken time qs cs rs → Each (λ c. IsOnce c.1) cs
 taken_once lower upper time [] [] [] h k = tt
 taken_once lower upper time (q ∷ qs) (c ∷ cs) (r ∷ rs) h k =
-    (run_once q.1 q.1 r.1 c.1 lower upper time (come_of lower upper q.1 h.0) k.2, taken_once lower upper time qs cs rs h.1 k.3)
+    (run_once q.1 q.1 r.1 c.1 lower upper time (come_of lower upper q.1 h.0) k.0.run, taken_once lower upper time qs cs rs h.1 k.1)
 taken_once lower upper time [] [] (r ∷ rs) h k = absurd k
 taken_once lower upper time [] (c ∷ cs) rs h k = absurd k
 taken_once lower upper time (q ∷ qs) [] rs h k = absurd k
@@ -48,8 +48,8 @@ pub taken_rest : (lower upper time : ℕ) (qs : List (ℕ × List Update)) (cs :
 unfolding come_on
 taken_rest lower upper time [] [] [] h later from k = tt
 taken_rest lower upper time (q ∷ qs) (c ∷ cs) (r ∷ rs) h later from k =
-    let on = come_on q.1 q.1 r.1 c.1 lower upper time (come_of lower upper q.1 h.0) k.2 later from.0 in
-    (record { from = HasCome.coming on; before = HasCome.until on; once = HasCome.order on }, taken_rest lower upper time qs cs rs h.1 later from.1 k.3)
+    let on = come_on q.1 q.1 r.1 c.1 lower upper time (come_of lower upper q.1 h.0) k.0.run later from.0 in
+    (record { from = HasCome.coming on; before = HasCome.until on; once = HasCome.order on }, taken_rest lower upper time qs cs rs h.1 later from.1 k.1)
 taken_rest lower upper time [] [] (r ∷ rs) h later from k = absurd k
 taken_rest lower upper time [] (c ∷ cs) rs h later from k = absurd k
 taken_rest lower upper time (q ∷ qs) [] rs h later from k = absurd k

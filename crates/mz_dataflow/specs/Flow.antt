@@ -57,5 +57,5 @@ put nodes leaves = top (after_nodes leaves nodes [])
 pub record IsBearableFlow (nodes : List Node) (lower upper : ℕ) (given : LeafUpdates) : Type 0 where
   pub rows : ℕ → Leaves
   pub stand : stand_nodes (rows lower) nodes []
-  pub next : (t item : ℕ) → Alike (rows (t + 1) item) (rows t item ++ changes t (given item))
+  pub next : (t item : ℕ) → lower ≤ t → Alike (rows (t + 1) item) (rows t item ++ changes t (given item))
   pub within : (t : ℕ) → lower ≤ t → t < upper → bear_nodes (rows t) (rows (t + 1)) nodes [] []

@@ -24,14 +24,14 @@ use Rattle.mz_dataflow.proofs.StackLaws.{top_changed}
 
 -- while nothing changes the leaves count alike
 rows_stay : (nodes : List Node) (lower upper : ℕ) (given : LeafUpdates) (b : IsBearableFlow nodes lower upper given) (at n : ℕ)
-    → ((t item : ℕ) → at ≤ t → t < at + n → changes t (given item) ≡ []) → AreAlike (b.rows at) (b.rows (at + n))
-rows_stay nodes lower upper given b at zero none item q = let same : at ≡ at + 0 = omega arith in ap (λ t. count q (b.rows t item)) same
-rows_stay nodes lower upper given b at (suc n) none item q =
+    → lower ≤ at → ((t item : ℕ) → at ≤ t → t < at + n → changes t (given item) ≡ []) → AreAlike (b.rows at) (b.rows (at + n))
+rows_stay nodes lower upper given b at zero low none item q = let same : at ≡ at + 0 = omega arith in ap (λ t. count q (b.rows t item)) same
+rows_stay nodes lower upper given b at (suc n) low none item q =
     let before : count q (b.rows at item) ≡ count q (b.rows (at + n) item) =
-    rows_stay nodes lower upper given b at n (λ t i low high. none t i low (omega (arith, high))) item q in
+    rows_stay nodes lower upper given b at n low (λ t i l high. none t i l (omega (arith, high))) item q in
     let still : count q (changes (at + n) (given item)) ≡ pos 0 = ap (count q) (none (at + n) item (omega arith) (omega arith)) in
     let next : count q (b.rows (at + n + 1) item) ≡ count q (b.rows (at + n) item) +ℤ count q (changes (at + n) (given item)) =
-    b.next (at + n) item q ∙ count-append q (b.rows (at + n) item) (changes (at + n) (given item)) in
+    b.next (at + n) item (omega (arith, low)) q ∙ count-append q (b.rows (at + n) item) (changes (at + n) (given item)) in
     let same : at + n + 1 ≡ at + suc n = omega arith in
     subst (λ t. count q (b.rows at item) ≡ count q (b.rows t item)) same (omega (arith, ints, before, still, next))
 
@@ -53,7 +53,7 @@ pub record IsFlowing (lower upper : ℕ) (old now : List Node) (given rest : Lea
   pub until : IsBefore at out
 
 -- it begins with nothing told
-pub flow_begun : (lower upper : ℕ) (nodes : List Node) (given : LeafUpdates) → lower ≤ upper → IsBearableFlow nodes lower upper given
+unfoldable pub flow_begun : (lower upper : ℕ) (nodes : List Node) (given : LeafUpdates) → lower ≤ upper → IsBearableFlow nodes lower upper given
     → ((item : ℕ) → IsFrom lower (given item)) → ((item : ℕ) → IsBefore upper (given item)) → ((item : ℕ) → IsConsolidated (given item))
     → IsFlowing lower upper nodes nodes given given []
 flow_begun lower upper nodes given later bears from before once = record {
@@ -78,22 +78,22 @@ flow_begun lower upper nodes given later bears from before once = record {
 }
 
 -- at the next time the nodes stand for the rows before it
-next_stands : (lower upper : ℕ) (old now : List Node) (given rest : LeafUpdates) (out : List Update) (time : ℕ)
+pub next_stands : (lower upper : ℕ) (old now : List Node) (given rest : LeafUpdates) (out : List Update) (time : ℕ)
     (h : IsFlowing lower upper old now given rest out) → h.at ≤ time → ((item : ℕ) → IsFrom time (rest item)) → stand_nodes (h.bears.rows time) now []
 next_stands lower upper old now given rest out time h later from =
     let same : h.at + (time - h.at) ≡ time = omega (arith, later) in
     stand_alike (h.bears.rows h.at) (h.bears.rows time)
     (subst (λ t. AreAlike (h.bears.rows h.at) (h.bears.rows t)) same
-    (rows_stay old lower upper given h.bears h.at (time - h.at)
+    (rows_stay old lower upper given h.bears h.at (time - h.at) h.low
     (λ t item low high. no_changes (given item) (rest item) h.at upper time t (h.come item) (from item) low (omega (arith, same, high)))))
     now [] [] tt h.stand
 
 -- and those after it count as these with what changes then
-next_alike : (lower upper : ℕ) (old now : List Node) (given rest after : LeafUpdates) (out : List Update) (time : ℕ) (told : Leaves)
+pub next_alike : (lower upper : ℕ) (old now : List Node) (given rest after : LeafUpdates) (out : List Update) (time : ℕ) (told : Leaves)
     (h : IsFlowing lower upper old now given rest out) → h.at ≤ time → ((item : ℕ) → IsFrom time (rest item))
     → ((item : ℕ) → IsRunAt time (rest item) (told item) (after item)) → AreAlike (h.bears.rows (time + 1)) (grown (h.bears.rows time) told)
 next_alike lower upper old now given rest after out time told h later from runs = λ item q.
-    h.bears.next time item q
+    h.bears.next time item (le_trans h.low later) q
     ∙ ap (λ ws. count q (h.bears.rows time item ++ ws))
     (run_changes (given item) (rest item) (after item) (told item) h.at upper time (h.come item) (runs item) later (from item))
 
@@ -110,7 +110,7 @@ next_can lower upper old now given rest after out time told h later below from r
 }
 
 -- a run changes what is put, as nodes put it that go on to put the same
-run_puts : (old now new : List Node) (told : Leaves) (rows : Weighted)
+pub run_puts : (old now new : List Node) (told : Leaves) (rows : Weighted)
     → ((leaves : Leaves) (stack : List Weighted) → after_nodes leaves now stack ≡ after_nodes leaves old stack) → IsRunTo told now new rows
     → IsChangeOf (put old) (λ leaves. stand_nodes leaves now []) (λ leaves. stand_nodes leaves new []) told rows
 run_puts old now new told rows same h = record {
@@ -123,7 +123,7 @@ run_puts old now new told rows same h = record {
 }
 
 -- told the changes of the next time, it has come past it
-pub flow_next : (lower upper : ℕ) (old now new : List Node) (given rest after : LeafUpdates) (out : List Update) (time : ℕ) (told : Leaves) (rows : Weighted)
+unfoldable pub flow_next : (lower upper : ℕ) (old now new : List Node) (given rest after : LeafUpdates) (out : List Update) (time : ℕ) (told : Leaves) (rows : Weighted)
     (h : IsFlowing lower upper old now given rest out) → h.at ≤ time → time < upper → ((item : ℕ) → IsFrom time (rest item))
     → ((item : ℕ) → IsRunAt time (rest item) (told item) (after item)) → IsRunTo told now new rows
     → IsFlowing lower upper old new given after (out ++ stamped time rows)
