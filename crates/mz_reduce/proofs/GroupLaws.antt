@@ -24,9 +24,11 @@ use Rattle.mz_keyed.proofs.KeyedLaws.{kept_none, kept_same}
 use Rattle.mz_ops.specs.Change.{IsBearable, IsChange, IsWithin}
 use Rattle.mz_reduce.specs.Grouping.{grouped_ints, is_taken, sums_ints, taken, AreRegrouped, HasRoom}
 use Rattle.mz_reduce.specs.Laws.{group_load}
+use Rattle.mz_reduce.specs.Orders.{AreOrders, Orders}
 use Rattle.mz_reduce.specs.Totals.{AreKeptGroups, AreTotals, KeyTotals}
 use Rattle.mz_reduce.proofs.GroupRoom.{ints_bounded}
 use Rattle.mz_reduce.proofs.KeptGroups.{regrouped_gives, regrouped_mass}
+use Rattle.mz_reduce.proofs.OrdersLaws.{none_ordered}
 use Rattle.mz_reduce.proofs.TotalsLaws.{none_totals}
 
 -- ---- the rows that are taken
@@ -108,10 +110,10 @@ both_ints aggregates (v ∷ vs) ws h k = (h.0, both_ints aggregates vs ws h.1 k)
 -- ---- a change
 
 -- what is bearable has room
-pub room_of : (places : List ℕ) (aggregates : List Aggregate) (groups : Keyed) (totals : KeyTotals) (left right : Weighted)
-    → IsBearable (λ ls rs. AreKeptGroups places aggregates groups totals ls) group_load left right
+pub room_of : (places : List ℕ) (aggregates : List Aggregate) (groups : Keyed) (totals : KeyTotals) (orders : Orders)
+    (left right : Weighted) → IsBearable (λ ls rs. AreKeptGroups places aggregates groups totals orders ls) group_load left right
     → HasRoom places aggregates groups (taken aggregates left)
-room_of places aggregates groups totals left right h = record {
+room_of places aggregates groups totals orders left right h = record {
   ws = filtered (sums_ints aggregates) h.first;
   kept = h.stand.rows;
   bounded = ints_bounded aggregates (filtered (sums_ints aggregates) h.first ++ taken aggregates left)
@@ -135,15 +137,17 @@ more_alike aggregates ls left q =
 
 -- what was regrouped is a change
 pub regrouped_change : (places : List ℕ) (aggregates : List Aggregate) (groups now : Keyed) (totals numbers : KeyTotals)
-    (left right out : Weighted) → AreRegrouped places aggregates groups now (taken aggregates left) out → AreTotals aggregates now numbers
-    → IsChange (λ ls rs. grouped_ints places aggregates ls) (λ ls rs. AreKeptGroups places aggregates groups totals ls)
-    (λ ls rs. AreKeptGroups places aggregates now numbers ls) left right out
-regrouped_change places aggregates groups now totals numbers left right out h sums = record {
+    (orders ranked : Orders) (left right out : Weighted) → AreRegrouped places aggregates groups now (taken aggregates left) out
+    → AreTotals aggregates now numbers → AreOrders aggregates now ranked
+    → IsChange (λ ls rs. grouped_ints places aggregates ls) (λ ls rs. AreKeptGroups places aggregates groups totals orders ls)
+    (λ ls rs. AreKeptGroups places aggregates now numbers ranked ls) left right out
+regrouped_change places aggregates groups now totals numbers orders ranked left right out h sums ranks = record {
   stands = λ ls rs k. record {
     rows = kept_same places now (filtered (sums_ints aggregates) ls ++ taken aggregates left)
         (filtered (sums_ints aggregates) (ls ++ left)) (more_alike aggregates ls left)
         (h.came.keeps (filtered (sums_ints aggregates) ls) k.rows);
     totals_are = sums;
+    orders_are = ranks;
   };
   gives = λ ls rs k q.
       ap (count q) (sym (grouped_same places aggregates (filtered (sums_ints aggregates) ls ++ taken aggregates left)
@@ -152,10 +156,10 @@ regrouped_change places aggregates groups now totals numbers left right out h su
 }
 
 -- of little mass
-pub regrouped_within : (places : List ℕ) (aggregates : List Aggregate) (groups now : Keyed) (totals : KeyTotals)
+pub regrouped_within : (places : List ℕ) (aggregates : List Aggregate) (groups now : Keyed) (totals : KeyTotals) (orders : Orders)
     (left right out : Weighted) → AreRegrouped places aggregates groups now (taken aggregates left) out
-    → IsWithin (λ ls rs. AreKeptGroups places aggregates groups totals ls) group_load left right out
-regrouped_within places aggregates groups now totals left right out h = record {
+    → IsWithin (λ ls rs. AreKeptGroups places aggregates groups totals orders ls) group_load left right out
+regrouped_within places aggregates groups now totals orders left right out h = record {
   most = λ ls rs k. omega (
     arith,
     regrouped_mass places aggregates groups now (taken aggregates left) out h,
@@ -184,12 +188,18 @@ pub totals_same : (aggregates ags : List Aggregate) (groups : Keyed) (totals : K
     → ags ≡ aggregates → AreTotals ags groups totals
 totals_same aggregates ags groups totals h same = subst (λ xs. AreTotals xs groups totals) (sym same) h
 
+-- and orders
+pub orders_same : (aggregates ags : List Aggregate) (groups : Keyed) (orders : Orders) → AreOrders aggregates groups orders
+    → ags ≡ aggregates → AreOrders ags groups orders
+orders_same aggregates ags groups orders h same = subst (λ xs. AreOrders xs groups orders) (sym same) h
+
 -- without a row nothing is kept
-pub none_kept : (places : List ℕ) (aggregates : List Aggregate) (groups : Keyed) (totals : KeyTotals) → groups ≡ [] → totals ≡ []
-    → AreKeptGroups places aggregates groups totals []
-none_kept places aggregates groups totals none nothing = record {
+pub none_kept : (places : List ℕ) (aggregates : List Aggregate) (groups : Keyed) (totals : KeyTotals) (orders : Orders)
+    → groups ≡ [] → totals ≡ [] → orders ≡ [] → AreKeptGroups places aggregates groups totals orders []
+none_kept places aggregates groups totals orders none nothing no_order = record {
   rows = subst (λ es. AreKept places es []) (sym none) (kept_none places);
   totals_are = none_totals aggregates groups totals none nothing;
+  orders_are = none_ordered aggregates groups orders none no_order;
 }
 
 -- ---- INTs alone

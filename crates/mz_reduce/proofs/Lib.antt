@@ -3,5 +3,7 @@ pub mod FewTables
 pub mod GroupLaws
 pub mod GroupRoom
 pub mod KeptGroups
+pub mod OrdersLaws
+pub mod RankLaws
 pub mod RegroupLaws
 pub mod TotalsLaws

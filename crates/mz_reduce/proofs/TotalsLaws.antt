@@ -1,5 +1,8 @@
 -- Totals go with the rows of their groups.
-use Rattle.std.proofs.Common.{◌≡◌, ℕ, zero, suc, ◌<◌, ◌≤◌, ◌^◌, Bool, true, false, cond, ℤ, pos, nat_abs, ◌+ℤ◌, ◌*ℤ◌, List, [], ◌∷◌, ◌++◌, Option, map, length, get_or, unwrap_or, refl, sym, ap, subst, ◌∙◌, arith}
+use Rattle.std.proofs.Common.{◌≡◌, ℕ, ◌+◌, ◌<◌, ◌≤◌, ◌^◌, Bool, true, false, cond, ◌||◌, ℤ, pos, nat_abs, ◌+ℤ◌, ◌*ℤ◌, List, [], ◌∷◌, ◌++◌, take, Option, map, length, get_or, unwrap_or, refl, sym, ap, subst, ◌∙◌, append_assoc, arith}
+use Rattle.std.proofs.Math.Bool.{or-true}
+use Rattle.std.proofs.lemmas.Bool.{eq-eqb}
+use Rattle.std.proofs.lemmas.List.{append-nil, take_more}
 use Rattle.std.proofs.lemmas.Int.{ints, int_wrap-add_left, int_wrap-add_right, int_wrap_fits, fits_signed_from_abs}
 use Rattle.std.specs.FinMap.{empty, entries}
 use Rattle.std.specs.Int.{w128, int_wrap}
@@ -18,12 +21,13 @@ use Rattle.mz_plan.specs.Aggregate.{aggregate_of, weigh}
 use Rattle.mz_plan.specs.Bound.{weighed, IsSummable}
 use Rattle.mz_plan.specs.Value.{number_of, value_at}
 use Rattle.mz_plan.specs.declared.aggregate.Aggregate.{Aggregate}
-use Rattle.mz_plan.specs.declared.aggregate.Aggregate.TheVariants.{Count, Sum}
+use Rattle.mz_plan.specs.declared.aggregate.Aggregate.TheVariants.{Count, Sum, Min, Max}
 use Rattle.mz_plan.proofs.SumRules.{mass_weighed, weigh_append}
 use Rattle.mz_plan_laws.proofs.Weighing.{row_itself, weigh_alike}
 use Rattle.mz_keyed.specs.Keyed.{Keyed, rows_of, IsAdded}
 use Rattle.mz_reduce.specs.Grouping.{AreBounded}
-use Rattle.mz_reduce.specs.Totals.{adds, told, totals_of, totals_over, with_row, ArePut, AreTotals, AreTotalsOf, IsTotalOf, KeyTotals}
+use Rattle.mz_reduce.specs.Orders.{are_ranked, order_of, ranks, IsOrder, Orders, TellsGreatest, TellsLeast}
+use Rattle.mz_reduce.specs.Totals.{adds, told, totals_of, totals_over, with_row, ArePut, AreTotals, AreTotalsOf, IsTotalOf, KeyTotals, Tells, TellsAll}
 
 -- ---- one row more
 
@@ -150,28 +154,52 @@ pub sum_total : (ws : Weighted) (place : ℕ) → IsSummable ws (Sum place)
 sum_total ws place light = whole_total (λ row. number_of (value_at row place)) ws light.within
 
 -- so the total of a COUNT or a SUM is what it tells
-pub count_tells : (ws : Weighted) (total : Aggregate × ℤ) → IsLight ws → IsTotalOf ws total → total.0 ≡ Count
-    → Wide total.1 ≡ aggregate_of ws total.0
-count_tells ws total light h is =
-    ap Wide (h.is ∙ ap (λ a. int_wrap w128 (weigh (adds a) ws)) is ∙ count_total ws light) ∙ ap (aggregate_of ws) (sym is)
+pub count_tells : (bag : Counts) (orders : Orders) (key : List Datum) (total : Aggregate × ℤ) → IsLight (entries bag)
+    → IsTotalOf bag orders key total → total.0 ≡ Count → Wide total.1 ≡ aggregate_of (entries bag) total.0
+count_tells bag orders key total light h is =
+    ap Wide (h.is ∙ ap (λ a. int_wrap w128 (weigh (adds a) (entries bag))) is ∙ count_total (entries bag) light)
+    ∙ ap (aggregate_of (entries bag)) (sym is)
 
-pub sum_tells : (ws : Weighted) (place : ℕ) (total : Aggregate × ℤ) → IsTotalOf ws total → total.0 ≡ Sum place
-    → Wide total.1 ≡ aggregate_of ws total.0
-sum_tells ws place total h is =
-    ap Wide (h.is ∙ ap (λ a. int_wrap w128 (weigh (adds a) ws)) is ∙ sum_total ws place (subst (IsSummable ws) is h.summable))
-    ∙ ap (aggregate_of ws) (sym is)
+pub sum_tells : (bag : Counts) (orders : Orders) (key : List Datum) (place : ℕ) (total : Aggregate × ℤ)
+    → IsTotalOf bag orders key total → total.0 ≡ Sum place → Wide total.1 ≡ aggregate_of (entries bag) total.0
+sum_tells bag orders key place total h is =
+    ap Wide (h.is ∙ ap (λ a. int_wrap w128 (weigh (adds a) (entries bag))) is
+    ∙ sum_total (entries bag) place (subst (IsSummable (entries bag)) is h.summable))
+    ∙ ap (aggregate_of (entries bag)) (sym is)
 
--- the totals over rows within the bound are of these rows
-each_over : (aggregates : List Aggregate) (ws : Weighted) → AllByRecursion (IsSummable ws) aggregates
-    → AllByRecursion (IsTotalOf ws) (totals_over aggregates ws)
-each_over [] ws h = tt
-each_over (a ∷ aggregates) ws h = (record { is = refl; summable = h.0 }, each_over aggregates ws h.1)
+-- and the first and the last of an order are what MIN and MAX tell
+pub least_tells : (orders : Orders) (key : List Datum) (place : ℕ) (total : Aggregate × ℤ) (value : Datum)
+    → TellsLeast place (order_of orders (place, key)) value → total.0 ≡ Min place → Tells orders key total value
+least_tells orders key place total value h is = record {
+  tells = λ bag stored light own.
+      h.tells bag stored (own.order place (ap (ranks place) is ∙ eq-eqb place place refl)) ∙ ap (aggregate_of (entries bag)) (sym is);
+}
 
-pub totals_are_of : (aggregates : List Aggregate) (ws : Weighted) (totals : List (Aggregate × ℤ)) → AreBounded aggregates ws
-    → totals ≡ totals_over aggregates ws → AreTotalsOf ws totals
-totals_are_of aggregates ws totals h same = record {
+pub greatest_tells : (orders : Orders) (key : List Datum) (place : ℕ) (total : Aggregate × ℤ) (value : Datum)
+    → TellsGreatest place (order_of orders (place, key)) value → total.0 ≡ Max place → Tells orders key total value
+greatest_tells orders key place total value h is = record {
+  tells = λ bag stored light own.
+      h.tells bag stored (own.order place (ap (ranks place) is ∙ eq-eqb place place refl)) ∙ ap (aggregate_of (entries bag)) (sym is);
+}
+
+-- the totals over rows within the bound are of these rows, which stand in the orders that they take
+each_over : (aggregates : List Aggregate) (bag : Counts) (orders : Orders) (key : List Datum)
+    → AllByRecursion (IsSummable (entries bag)) aggregates
+    → ((place : ℕ) → are_ranked place aggregates ≡ true → IsOrder place bag (order_of orders (place, key)))
+    → AllByRecursion (IsTotalOf bag orders key) (totals_over aggregates (entries bag))
+each_over [] bag orders key h ranked = tt
+each_over (a ∷ aggregates) bag orders key h ranked = (
+  record { is = refl; summable = h.0; order = λ place e. ranked place (ap (λ c. c || are_ranked place aggregates) e) },
+  each_over aggregates bag orders key h.1 (λ place e. ranked place (ap (λ c. ranks place a || c) e ∙ or-true (ranks place a))),
+)
+
+pub totals_are_of : (aggregates : List Aggregate) (bag : Counts) (orders : Orders) (key : List Datum) (totals : List (Aggregate × ℤ))
+    → AreBounded aggregates (entries bag)
+    → ((place : ℕ) → are_ranked place aggregates ≡ true → IsOrder place bag (order_of orders (place, key)))
+    → totals ≡ totals_over aggregates (entries bag) → AreTotalsOf bag orders key totals
+totals_are_of aggregates bag orders key totals h ranked same = record {
   light = h.light;
-  each = subst (AllByRecursion (IsTotalOf ws)) (sym same) (each_over aggregates ws h.sums);
+  each = subst (AllByRecursion (IsTotalOf bag orders key)) (sym same) (each_over aggregates bag orders key h.sums ranked);
 }
 
 -- and of these aggregates
@@ -179,9 +207,34 @@ pub told_over : (aggregates : List Aggregate) (ws : Weighted) → told (totals_o
 told_over [] ws = refl
 told_over (a ∷ aggregates) ws = ap (λ rest. a ∷ rest) (told_over aggregates ws)
 
--- the total at a place
-pub total_at : (ws : Weighted) (totals : List (Aggregate × ℤ)) (i : ℕ) (d : Aggregate × ℤ) → i < length totals
-    → AllByRecursion (IsTotalOf ws) totals → IsTotalOf ws (get_or totals i d)
-total_at ws [] i d within h = absurd (omega (arith, within))
-total_at ws (t ∷ totals) zero d within h = h.0
-total_at ws (t ∷ totals) (suc i) d within h = total_at ws totals i d (omega (arith, within)) h.1
+-- a row of which no aggregate is told yet is its key
+pub none_told : (orders : Orders) (key values : List Datum) → values ≡ key → TellsAll orders key [] values
+none_told orders key values same = record { tells = λ bag is all. same ∙ sym (append-nil key) }
+
+-- totals are those before the last, and it
+all_but_last : (P : Aggregate × ℤ → Type 0) (totals : List (Aggregate × ℤ)) (last : Aggregate × ℤ)
+    → AllByRecursion P (totals ++ last ∷ []) → AllByRecursion P totals × P last
+all_but_last P [] last h = (tt, h.0)
+all_but_last P (t ∷ totals) last h = let rest = all_but_last P totals last h.1 in ((h.0, rest.0), rest.1)
+
+-- the aggregates of totals with one more
+told_more : (f : Aggregate → Datum) (totals : List (Aggregate × ℤ)) (last : Aggregate × ℤ)
+    → map f (told (totals ++ last ∷ [])) ≡ map f (told totals) ++ f last.0 ∷ []
+told_more f [] last = refl
+told_more f (t ∷ totals) last = ap (λ vs. f t.0 ∷ vs) (told_more f totals last)
+
+-- and what one more tells comes behind
+pub one_told : (orders : Orders) (key values more : List Datum) (totals : List (Aggregate × ℤ)) (place : ℕ) (total : Aggregate × ℤ)
+    (value : Datum) → place < length totals → TellsAll orders key (take place totals) values
+    → Tells orders key (get_or totals place total) value → more ≡ values ++ value ∷ [] → TellsAll orders key (take (place + 1) totals) more
+one_told orders key values more totals place total value within h one pushed =
+    subst (λ ts. TellsAll orders key ts more) (sym (take_more totals place total within))
+    (record {
+      tells = λ bag is all.
+          let last = get_or totals place total in
+          let parts = all_but_last (IsTotalOf bag orders key) (take place totals) last all.each in
+          pushed
+          ∙ (λ i. h.tells bag is (record { light = all.light; each = parts.0 }) i ++ one.tells bag is all.light parts.1 i ∷ [])
+          ∙ append_assoc key (map (aggregate_of (entries bag)) (told (take place totals))) (aggregate_of (entries bag) last.0 ∷ [])
+          ∙ ap (λ vs. key ++ vs) (sym (told_more (aggregate_of (entries bag)) (take place totals) last));
+    })

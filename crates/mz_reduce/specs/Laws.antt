@@ -12,6 +12,7 @@ use Rattle.mz_keyed.proofs.KeyedLaws.{kept_same}
 use Rattle.mz_ops.specs.Change.{IsLoad, Load, ReadsCounts}
 use Rattle.mz_reduce.specs.Counting.{IsCountOf}
 use Rattle.mz_reduce.specs.Grouping.{grouped_ints, sums_ints}
+use Rattle.mz_reduce.specs.Orders.{Orders}
 use Rattle.mz_reduce.specs.Totals.{AreKeptGroups, KeyTotals}
 
 -- ---- what is read
@@ -24,9 +25,9 @@ distinct_reads bag = record {
 }
 
 -- groups read counts, and stand for rows that are kept by their keys
-pub group_reads : (places : List ℕ) (aggregates : List Aggregate) (groups : Keyed) (totals : KeyTotals)
-    → ReadsCounts (λ ls rs. grouped_ints places aggregates ls) (λ ls rs. AreKeptGroups places aggregates groups totals ls)
-group_reads places aggregates groups totals = record {
+pub group_reads : (places : List ℕ) (aggregates : List Aggregate) (groups : Keyed) (totals : KeyTotals) (orders : Orders)
+    → ReadsCounts (λ ls rs. grouped_ints places aggregates ls) (λ ls rs. AreKeptGroups places aggregates groups totals orders ls)
+group_reads places aggregates groups totals orders = record {
   gives = λ ls rs ms ns h k q. ap (count q)
       (grouped_same places aggregates (filtered (sums_ints aggregates) ls) (filtered (sums_ints aggregates) ms)
       (filter_alike (sums_ints aggregates) ls ms h));
@@ -34,6 +35,7 @@ group_reads places aggregates groups totals = record {
     rows = kept_same places groups (filtered (sums_ints aggregates) ls) (filtered (sums_ints aggregates) ms)
         (filter_alike (sums_ints aggregates) ls ms h) s.rows;
     totals_are = s.totals_are;
+    orders_are = s.orders_are;
   };
 }
 

@@ -1,4 +1,5 @@
 pub mod Counting
 pub mod Grouping
 pub mod Laws
+pub mod Orders
 pub mod Totals

@@ -26,8 +26,8 @@ pub struct DistinctOp {
     timed: Timed<Distinct>,
 }
 
-// Whether a row with this count is there.
-fn is_there(count: i128) -> bool
+/// Whether a row with this count is there.
+pub fn is_there(count: i128) -> bool
     ensures { result ≡ is_there count }
 {
     count != 0

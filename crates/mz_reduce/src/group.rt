@@ -6,8 +6,10 @@ ghost use Rattle.mz_plan.specs.Value.{cells};
 ghost use Rattle.mz_keyed.specs.Keyed.{rows_of};
 ghost use Rattle.mz_reduce.specs.Grouping.{grouped_ints, AreBounded, AreIn, AreRegrouped};
 ghost use Rattle.mz_reduce.specs.Grouping.{HasRoom, IsRowIn, IsTouched};
+ghost use Rattle.mz_reduce.specs.Orders.{AreOrders};
 ghost use Rattle.mz_reduce.specs.Totals.{AreTotals};
 
+use crate::orders::{Orders, turn};
 use crate::showing::{keep_taken, push_all, push_shown};
 use crate::totals::{Totals, next_totals, put_back};
 use indexmap::{IndexMap, IndexSet};
@@ -21,8 +23,9 @@ use mz_value::{Row, TryCopy};
 use std::alloc::{AllocError, Global};
 
 /// Of the left rows of each key one row: the key, and behind it the aggregates of these rows. It
-/// keeps the rows by their keys, and of each key the totals, and takes none on the right. Rows whose
-/// number is larger than an INT where a SUM is taken are left out.
+/// keeps the rows by their keys, and of each key the totals, and the rows in order where a MIN or a
+/// MAX is taken. It takes none on the right. Rows whose number is larger than an INT where a SUM is
+/// taken are left out.
 #[derive(Drop)]
 pub struct Group {
     places: Places,
@@ -30,6 +33,8 @@ pub struct Group {
     groups: KeyedRows,
     // Each key with the totals of its group.
     totals: IndexMap<Row, Totals>,
+    // Of each key the rows of its group, in the order of each place that a MIN or a MAX takes.
+    orders: Orders,
 }
 
 /// Groups that are told updates.
@@ -47,8 +52,10 @@ fn touch(
     aggregates: &[Aggregate],
     groups: &KeyedRows,
     totals: &IndexMap<Row, Totals>,
+    orders: &Orders,
 ) -> Result<(), AllocError>
     requires totals { AreTotals aggregates.now groups.now totals.now.entries }
+    requires orders { AreOrders aggregates.now groups.now orders.now.entries }
     requires bounded { AreBounded aggregates.now (entries (rows_of groups.now key.now)) }
     ensures { OnOk result (IsTouched aggregates.now groups.now key.now
         touched.old.keys touched.new.keys out.old.items out.new.items) }
@@ -56,7 +63,7 @@ fn touch(
     if touched.contains(key) {
         return Ok(());
     }
-    push_shown(alloc, out, key, -1, aggregates, groups, totals)?;
+    push_shown(alloc, out, key, -1, aggregates, groups, totals, orders)?;
     touched.insert(key.try_copy(alloc)?)?;
     Ok(())
 }
@@ -72,17 +79,23 @@ fn row_in(
     aggregates: &[Aggregate],
     groups: &mut KeyedRows,
     totals: &mut IndexMap<Row, Totals>,
+    orders: &mut Orders,
 ) -> Result<(), AllocError>
     requires totals { AreTotals aggregates.now groups.old totals.old.entries }
+    requires orders { AreOrders aggregates.now groups.old orders.old.entries }
     requires fits { Fits (count_in (rows_of groups.old (cells places.now row)) row +ℤ diff) }
     requires bounded { let group = rows_of groups.old (cells places.now row) in
         AreBounded aggregates.now (entries group) }
     ensures totals { OnOk result (AreTotals aggregates.now groups.new totals.new.entries) }
+    ensures orders { OnOk result (AreOrders aggregates.now groups.new orders.new.entries) }
     ensures row { OnOk result (IsRowIn places.now aggregates.now groups.old groups.new row diff
         touched.old.keys touched.new.keys out.old.items out.new.items) }
 {
     let key = cells(alloc, &row, places)?;
-    touch(alloc, out, touched, &key, aggregates, groups, totals)?;
+    touch(
+        alloc, out, touched, &key, aggregates, groups, totals, orders,
+    )?;
+    turn(alloc, orders, groups, &key, aggregates, &row, diff)?;
     let numbers = next_totals(alloc, totals, &key, aggregates, &row, diff)?;
     let kept = key.try_copy(alloc)?;
     groups.add(kept, row, diff)?;
@@ -100,8 +113,10 @@ fn all_in(
     aggregates: &[Aggregate],
     groups: &mut KeyedRows,
     totals: &mut IndexMap<Row, Totals>,
+    orders: &mut Orders,
 ) -> Result<(), AllocError>
     requires totals { AreTotals aggregates.now groups.old totals.old.entries }
+    requires orders { AreOrders aggregates.now groups.old orders.old.entries }
     requires room { HasRoom places.now aggregates.now groups.old rows.items }
     requires untouched { touched.old.keys ≡ [] }
     requires none { out.old.items ≡ [] }
@@ -109,10 +124,11 @@ fn all_in(
         touched.new.keys out.new.items) }
     ensures room { OnOk result (HasRoom places.now aggregates.now groups.new []) }
     ensures totals { OnOk result (AreTotals aggregates.now groups.new totals.new.entries) }
+    ensures orders { OnOk result (AreOrders aggregates.now groups.new orders.new.entries) }
 {
     'rows: for (row, diff) in rows {
         row_in(
-            alloc, out, touched, row, diff, places, aggregates, groups, totals,
+            alloc, out, touched, row, diff, places, aggregates, groups, totals, orders,
         )?;
     }
     Ok(())
@@ -127,10 +143,13 @@ fn regrouped(
     aggregates: &[Aggregate],
     groups: &mut KeyedRows,
     totals: &mut IndexMap<Row, Totals>,
+    orders: &mut Orders,
 ) -> Result<Vec<(Row, i128)>, AllocError>
     requires totals { AreTotals aggregates.now groups.old totals.old.entries }
+    requires orders { AreOrders aggregates.now groups.old orders.old.entries }
     requires room { HasRoom places.now aggregates.now groups.old rows.items }
     ensures totals { OnOk result (AreTotals aggregates.now groups.new totals.new.entries) }
+    ensures orders { OnOk result (AreOrders aggregates.now groups.new orders.new.entries) }
     ensures groups { IfOk result (λ out. AreRegrouped places.now aggregates.now groups.old groups.new
         rows.items out.items) }
 {
@@ -145,8 +164,11 @@ fn regrouped(
         aggregates,
         groups,
         totals,
+        orders,
     )?;
-    push_all(alloc, &mut out, &touched, aggregates, groups, totals)?;
+    push_all(
+        alloc, &mut out, &touched, aggregates, groups, totals, orders,
+    )?;
     Ok(out)
 }
 
@@ -158,12 +180,14 @@ impl Group {
         ensures aggregates { result.aggregates ≡ aggregates }
         ensures groups { result.groups ≡ [] }
         ensures totals { result.totals.entries ≡ [] }
+        ensures orders { result.orders.entries ≡ [] }
     {
         Group {
             places,
             aggregates,
             groups: KeyedRows::empty(alloc),
             totals: IndexMap::new(alloc),
+            orders: IndexMap::new(alloc),
         }
     }
 }
@@ -193,11 +217,12 @@ impl Changing for Group {
     ghost meaning = { λ op ls rs. grouped_ints op.places op.aggregates ls };
 
     ghost stands = { λ op ls rs.
-        AreKeptGroups op.places op.aggregates op.groups op.totals.entries ls };
+        AreKeptGroups op.places op.aggregates op.groups op.totals.entries op.orders.entries ls };
 
     ghost load = { λ op. group_load };
 
-    ghost reads = { λ op. group_reads op.places op.aggregates op.groups op.totals.entries };
+    ghost reads = { λ op.
+        group_reads op.places op.aggregates op.groups op.totals.entries op.orders.entries };
 
     ghost loads = { λ op. group_loads };
 
@@ -212,7 +237,9 @@ impl Changing for Group {
         let aggregates = self.aggregates.as_slice();
         keep_taken(&mut rows, aggregates);
         let groups = &mut self.groups;
-        let out = regrouped(alloc, rows, places, aggregates, groups, &mut self.totals)?;
+        let totals = &mut self.totals;
+        let orders = &mut self.orders;
+        let out = regrouped(alloc, rows, places, aggregates, groups, totals, orders)?;
         Ok(CountedRows::from_vec(out))
     }
 }

@@ -8,6 +8,7 @@
 mod distinct;
 mod group;
 pub mod laws;
+mod orders;
 mod showing;
 mod totals;
 

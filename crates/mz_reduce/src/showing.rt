@@ -1,23 +1,22 @@
 //! The rows of groups, as they are shown.
-ghost use Rattle.std.specs.Prelude.{◌≡◌, ◌++◌, map, pos, List, IfOk, OnOk};
+ghost use Rattle.std.specs.Prelude.{◌≡◌, ◌++◌, pos, List, IfOk, OnOk};
 ghost use Rattle.std.specs.FinMap.{entries};
 ghost use Rattle.std.specs.List.{AllByRecursion as Each, IsDistinct};
 ghost use Rattle.mz_value.specs.Row.{row_eq};
 ghost use Rattle.mz_value.specs.declared.datum.Datum.{Datum};
 ghost use Rattle.mz_bag.specs.Bag.{IsBag};
-ghost use Rattle.mz_bag.specs.Mass.{IsLight};
-ghost use Rattle.mz_plan.specs.Aggregate.{aggregate_of};
-ghost use Rattle.mz_plan.specs.Bound.{IsSummable};
 ghost use Rattle.mz_keyed.specs.Keyed.{rows_of};
 ghost use Rattle.mz_reduce.specs.Grouping.{is_taken, sums_int, sums_ints, taken};
 ghost use Rattle.mz_reduce.specs.Grouping.{all_shown, shown, AreBounded};
-ghost use Rattle.mz_reduce.specs.Totals.{told, totals_of, AreTotals, AreTotalsOf, IsTotalOf};
+ghost use Rattle.mz_reduce.specs.Orders.{AreOrders};
+ghost use Rattle.mz_reduce.specs.Totals.{told, totals_of, AreTotals, AreTotalsOf, Tells, TellsAll};
 
+use crate::orders::{Orders, greatest, least};
 use crate::totals::{Totals, zeros};
 use indexmap::{IndexMap, IndexSet};
 use mz_bag::Bag;
 use mz_keyed::KeyedRows;
-use mz_plan::{Aggregate, aggregate_of, number_at};
+use mz_plan::{Aggregate, number_at};
 use mz_value::{Datum, Row, TryCopy};
 use std::alloc::{AllocError, Global};
 
@@ -57,27 +56,20 @@ pub fn keep_taken(rows: &mut Vec<(Row, i128)>, aggregates: &[Aggregate])
     rows.retain(|entry| is_taken(entry, aggregates));
 }
 
-// What a bag of rows tells for an aggregate, by going through them.
-fn scanned(alloc: Global, aggregate: Aggregate, bag: &Bag) -> Result<Datum, AllocError>
-    requires light { IsLight (entries bag.now) }
-    requires summable { IsSummable (entries bag.now) aggregate }
-    ensures { IfOk result (λ value. value ≡ aggregate_of (entries bag.now) aggregate) }
-{
-    let rows = bag.counted()?;
-    aggregate_of(alloc, rows.as_slice(), aggregate)
-}
-
-// What a bag of rows tells for an aggregate, whose total over them is given.
-fn value_of(alloc: Global, total: &(Aggregate, i128), bag: &Bag) -> Result<Datum, AllocError>
-    requires light { IsLight (entries bag.now) }
-    requires total { IsTotalOf (entries bag.now) total.now }
-    ensures { IfOk result (λ value. value ≡ aggregate_of (entries bag.now) total.now.0) }
+// What an aggregate tells of the group of a key, by its total and the orders of the key.
+fn value_of(
+    alloc: Global,
+    key: &Row,
+    total: &(Aggregate, i128),
+    orders: &Orders,
+) -> Result<Datum, AllocError>
+    ensures { IfOk result (Tells orders.now.entries key.now total.now) }
 {
     match total.0 {
         Aggregate::Count => Ok(Datum::Wide(total.1)),
         Aggregate::Sum(_) => Ok(Datum::Wide(total.1)),
-        Aggregate::Min(_) => scanned(alloc, total.0, bag),
-        Aggregate::Max(_) => scanned(alloc, total.0, bag),
+        Aggregate::Min(place) => Ok(least(alloc, orders, key, place)?),
+        Aggregate::Max(place) => Ok(greatest(alloc, orders, key, place)?),
     }
 }
 
@@ -86,15 +78,13 @@ fn row_of_totals(
     alloc: Global,
     key: &Row,
     totals: &[(Aggregate, i128)],
-    bag: &Bag,
+    orders: &Orders,
 ) -> Result<Row, AllocError>
-    requires { AreTotalsOf (entries bag.now) totals.now }
-    ensures { IfOk result (λ row. row
-        ≡ key.now ++ map (aggregate_of (entries bag.now)) (told totals.now)) }
+    ensures { IfOk result (TellsAll orders.now.entries key.now totals.now) }
 {
     let mut values = key.try_copy(alloc)?.into_vec();
     'totals: for total in totals {
-        values.push(value_of(alloc, total, bag)?)?;
+        values.push(value_of(alloc, key, total, orders)?)?;
     }
     Ok(Row::from_vec(values))
 }
@@ -106,9 +96,10 @@ fn push_group(
     key: &Row,
     weight: i128,
     totals: &[(Aggregate, i128)],
+    orders: &Orders,
     bag: &Bag,
 ) -> Result<(), AllocError>
-    requires { AreTotalsOf (entries bag.now) totals.now }
+    requires { AreTotalsOf bag.now orders.now.entries key.now totals.now }
     ensures shown { OnOk result (out.new.items
         ≡ out.old.items ++ shown (told totals.now) key.now weight (entries bag.now)) }
     ensures bag { IsBag bag.now }
@@ -116,7 +107,7 @@ fn push_group(
     let count = bag.len();
     let there = count > 0;
     if there {
-        let row = row_of_totals(alloc, key, totals, bag)?;
+        let row = row_of_totals(alloc, key, totals, orders)?;
         out.push((row, weight))?;
     }
     Ok(())
@@ -130,25 +121,27 @@ fn push_by_totals(
     weight: i128,
     aggregates: &[Aggregate],
     totals: &IndexMap<Row, Totals>,
+    orders: &Orders,
     bag: &Bag,
 ) -> Result<(), AllocError>
-    requires { AreTotalsOf (entries bag.now) (totals_of aggregates.now totals.now.entries key.now) }
+    requires { AreTotalsOf bag.now orders.now.entries key.now
+        (totals_of aggregates.now totals.now.entries key.now) }
     ensures shown { OnOk result (out.new.items ≡ out.old.items
         ++ shown (told (totals_of aggregates.now totals.now.entries key.now)) key.now weight
         (entries bag.now)) }
     ensures bag { OnOk result (IsBag bag.now) }
 {
     match totals.get(key) {
-        Some(numbers) => push_group(alloc, out, key, weight, numbers.as_slice(), bag),
+        Some(numbers) => push_group(alloc, out, key, weight, numbers.as_slice(), orders, bag),
         None => {
             let numbers = zeros(alloc, aggregates)?;
-            push_group(alloc, out, key, weight, numbers.as_slice(), bag)
+            push_group(alloc, out, key, weight, numbers.as_slice(), orders, bag)
         }
     }
 }
 
-/// Puts the row of a key's group behind others, where it has rows. O(1) expected, and O(n log n)
-/// for each MIN and MAX, where the group has n rows.
+/// Puts the row of a key's group behind others, where it has rows. O(1) expected, and O(log n) for
+/// each MIN and MAX, where the group has n rows.
 pub fn push_shown(
     alloc: Global,
     out: &mut Vec<(Row, i128)>,
@@ -157,16 +150,18 @@ pub fn push_shown(
     aggregates: &[Aggregate],
     groups: &KeyedRows,
     totals: &IndexMap<Row, Totals>,
+    orders: &Orders,
 ) -> Result<(), AllocError>
     requires bounded { AreBounded aggregates.now (entries (rows_of groups.now key.now)) }
     requires totals { AreTotals aggregates.now groups.now totals.now.entries }
+    requires orders { AreOrders aggregates.now groups.now orders.now.entries }
     ensures shown { OnOk result (out.new.items ≡ out.old.items
         ++ shown aggregates.now key.now weight (entries (rows_of groups.now key.now))) }
     ensures bag { OnOk result (IsBag (rows_of groups.now key.now)) }
 {
     match groups.get(key) {
         Some(bag) => {
-            push_by_totals(alloc, out, key, weight, aggregates, totals, bag)?;
+            push_by_totals(alloc, out, key, weight, aggregates, totals, orders, bag)?;
             Ok(())
         }
         None => Ok(()),
@@ -181,8 +176,10 @@ pub fn push_all(
     aggregates: &[Aggregate],
     groups: &KeyedRows,
     totals: &IndexMap<Row, Totals>,
+    orders: &Orders,
 ) -> Result<(), AllocError>
     requires totals { AreTotals aggregates.now groups.now totals.now.entries }
+    requires orders { AreOrders aggregates.now groups.now orders.now.entries }
     requires bounded { (key : List Datum)
         → AreBounded aggregates.now (entries (rows_of groups.now key)) }
     ensures shown { OnOk result (out.new.items
@@ -191,7 +188,7 @@ pub fn push_all(
     ensures once { IsDistinct row_eq keys.now.keys }
 {
     'keys: for key in keys.iter() {
-        push_shown(alloc, out, key, 1, aggregates, groups, totals)?;
+        push_shown(alloc, out, key, 1, aggregates, groups, totals, orders)?;
     }
     Ok(())
 }

@@ -18,6 +18,7 @@ rows-init c =
           (begun c.args.places.now c.args.aggregates.now c.args.groups.now c.args.rows.items c.args.touched.now.keys c.args.out.now.items
           c.requires.room c.requires.untouched c.requires.none);
       totals_are = c.requires.totals;
+      orders_are = c.requires.orders;
     }
 
 -- there is room for the next
@@ -46,6 +47,7 @@ rows-preserved c =
           c.rows.touched.keys c.row_in.new.touched.keys c.rows.out.items c.row_in.new.out.items c.in-Some.row c.in-Some.diff
           (subst (λ (ws : Weighted). IsOn c.args.places.now c.args.aggregates.now c.args.groups.now c.rows.groups c.args.rows.items ws c.rows.touched.keys c.rows.out.items) step c.rows.invariant.on) one;
       totals_are = c.in_ok-row_in.ensures.totals;
+      orders_are = c.in_ok-row_in.ensures.orders;
     }
 
 -- till none is left

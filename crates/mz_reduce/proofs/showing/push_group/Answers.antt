@@ -12,7 +12,8 @@ returns-in_ok-push-clause-shown c =
     let fits : SFits w128 c.args.weight = search (rules, ints) in
     let pushed = rw to_z-of_z at c.in_ok-push.ensures.items in
     let some : 1 ≤ len c.args.bag.now = omega (arith, c.len-count.ensures.count) in
-    pushed ∙ ap (λ row. c.args.out.now.items ++ (row, c.args.weight) ∷ []) c.in_ok-row.ensures
+    pushed
+    ∙ ap (λ row. c.args.out.now.items ++ (row, c.args.weight) ∷ []) (c.in_ok-row.ensures.tells c.args.bag.now c.len-count.ensures.stored.no_zero c.requires)
     ∙ ap (λ ws. c.args.out.now.items ++ ws)
     (sym (shown_some (told c.args.totals.now) c.args.key.now c.args.weight (entries c.args.bag.now)
     (subst (λ n. 1 ≤ n) (len-entries c.args.bag.now) some)))

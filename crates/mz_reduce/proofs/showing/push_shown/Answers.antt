@@ -7,14 +7,17 @@ use Rattle.mz_bag.specs.Bag.{Counts, IsBag}
 use Rattle.mz_bag.proofs.BagLaws.{entries-empty, IsBag-empty}
 use Rattle.mz_keyed.specs.Keyed.{rows_of}
 use Rattle.mz_reduce.specs.Grouping.{shown, AreBounded}
+use Rattle.mz_reduce.specs.Orders.{order_of, IsOrder}
 use Rattle.mz_reduce.specs.Totals.{told, totals_over}
 use Rattle.mz_reduce.proofs.TotalsLaws.{told_over, totals_are_of}
 use Rattle.mz_reduce.proofs.showing.push_shown.Goals as goal
 
--- the key has the totals of its rows
+-- the key has the totals of its rows, and the orders
 pub push_by_totals-requires : goal.push_by_totals-requires
-push_by_totals-requires c = totals_are_of c.args.aggregates.now _ _
+push_by_totals-requires c = totals_are_of c.args.aggregates.now c.in-Some.bag.now c.args.orders.now.entries c.args.key.now _
     (subst (λ (bag : Counts). AreBounded c.args.aggregates.now (entries bag)) (sym c.in-Some.ensures) c.requires.bounded)
+    (λ place ranked. subst (λ (bag : Counts). IsOrder place bag (order_of c.args.orders.now.entries (place, c.args.key.now)))
+    (sym c.in-Some.ensures) (c.requires.orders.each place c.args.key.now ranked))
     (c.requires.totals.each c.args.key.now ∙ ap (λ (bag : Counts). totals_over c.args.aggregates.now (entries bag)) (sym c.in-Some.ensures))
 
 -- and they tell of its aggregates

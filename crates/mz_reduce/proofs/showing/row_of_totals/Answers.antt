@@ -1,8 +1,12 @@
-use Rattle.std.specs.FinMap.{entries}
-use Rattle.mz_reduce.proofs.TotalsLaws.{total_at}
+use Rattle.std.proofs.Common.{rules}
+use Rattle.mz_reduce.proofs.TotalsLaws.{none_told, one_told}
 use Rattle.mz_reduce.proofs.showing.row_of_totals.Goals as goal
 
--- each total is that of the rows
-pub value_of-requires-clause-total : goal.value_of-requires-clause-total
-value_of-requires-clause-total c =
-    total_at (entries c.args.bag.now) c.args.totals.now c.totals.total-index _ c.totals-test.true c.requires.each
+-- at first it is the key
+pub totals-init : goal.totals-init
+totals-init c = none_told c.args.orders.now.entries c.args.key.now c.into_vec-values.result.items (search rules)
+
+-- then each total tells one value more
+pub totals-preserved : goal.totals-preserved
+totals-preserved c = one_told c.args.orders.now.entries c.args.key.now c.totals.values.items c.push.new.self.items c.args.totals.now
+    c.totals.total-index _ _ c.totals-test.true c.totals.invariant c.in_ok-value_of.ensures (search rules)

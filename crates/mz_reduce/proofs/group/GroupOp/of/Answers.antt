@@ -9,6 +9,8 @@ returns-clause-fresh c = record {
   left = record { each = tt };
   right = record { each = tt };
   stand = none_kept c.fresh.result.core.places c.fresh.result.core.aggregates c.fresh.result.core.groups
-      c.fresh.result.core.totals.entries (ap (λ (op : Group). op.groups) c.fresh.ensures.core ∙ c.of.ensures.groups)
-      (ap (λ (op : Group). op.totals.entries) c.fresh.ensures.core ∙ c.of.ensures.totals);
+      c.fresh.result.core.totals.entries c.fresh.result.core.orders.entries
+      (ap (λ (op : Group). op.groups) c.fresh.ensures.core ∙ c.of.ensures.groups)
+      (ap (λ (op : Group). op.totals.entries) c.fresh.ensures.core ∙ c.of.ensures.totals)
+      (ap (λ (op : Group). op.orders.entries) c.fresh.ensures.core ∙ c.of.ensures.orders);
 }
