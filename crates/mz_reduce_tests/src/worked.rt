@@ -1,11 +1,14 @@
 //! Groups and distinct rows worked by hand.
 ghost use Rattle.std.specs.Prelude.{◌≡◌, [], IfOk};
 
-use crate::any::{AnyOp, answers};
-use crate::texts::Change;
+use crate::any::{AnyOp, answers, tell_any};
+use crate::texts::{Change, time, updates, written};
+use crate::told::Told;
 use mz_ops::Operator;
 use mz_plan::{Aggregate, Aggregates, Places};
 use mz_reduce::{DistinctOp, GroupOp};
+use mz_updates::Updates;
+use mz_value::{Datum, Row};
 use std::alloc::{AllocError, Global};
 use std::process::Abort;
 use std::test::Fail;
@@ -36,6 +39,20 @@ pub fn groups(alloc: Global, count: u64) -> Result<AnyOp, AllocError>
 {
     let places = places(alloc, count)?;
     let aggregates = aggregates(alloc)?;
+    Ok(AnyOp::Group(GroupOp::of(alloc, places, aggregates)))
+}
+
+// Groups by the first place, with the least value at place 1 and the greatest at place 2, which were
+// told nothing yet.
+fn ends(alloc: Global) -> Result<AnyOp, AllocError>
+    ensures fresh { IfOk result (λ op. ⟦<AnyOp as Operator>⟧.stands op [] []) }
+    ensures upper { IfOk result (λ op. ⟦<AnyOp as Operator>⟧.upper op ≡ 0) }
+{
+    let places = places(alloc, 1)?;
+    let mut aggregates = Vec::new(alloc);
+    aggregates.push(Aggregate::Min(1))?;
+    aggregates.push(Aggregate::Max(2))?;
+    let aggregates = Aggregates::from_vec(aggregates);
     Ok(AnyOp::Group(GroupOp::of(alloc, places, aggregates)))
 }
 
@@ -137,6 +154,80 @@ fn texts_have_a_least_and_a_greatest(rt: HostRuntime) -> Result<(), Fail> {
     let rows = [("1b", 1, 1), ("1c", 1, 1), ("1a", 2, 1), ("1c", 2, -1)];
     let wanted = "120bc at 1: 1; 120ab at 2: 1; 120bc at 2: -1; ";
     groups_give(&rt, rt.alloc(), &rows, &[3], wanted)?;
+    Ok(())
+}
+
+#[test]
+fn the_least_text_goes_and_comes_back(rt: HostRuntime) -> Result<(), Fail> {
+    let rows = [("1b", 1, 1), ("1c", 1, 1), ("1b", 2, -1), ("1b", 3, 1)];
+    let wanted = "120bc at 1: 1; 110cc at 2: 1; 120bc at 2: -1; 110cc at 3: -1; 120bc at 3: 1; ";
+    groups_give(&rt, rt.alloc(), &rows, &[2, 3, 4], wanted)?;
+    Ok(())
+}
+
+#[test]
+fn the_least_goes_with_its_last_row(rt: HostRuntime) -> Result<(), Fail> {
+    let rows = [
+        ("12a", 1, 1),
+        ("12b", 1, 1),
+        ("15", 1, 1),
+        ("12a", 2, -1),
+        ("12b", 3, -1),
+    ];
+    let wanted = "13925 at 1: 1; 12725 at 2: 1; 13925 at 2: -1; 11555 at 3: 1; 12725 at 3: -1; ";
+    groups_give(&rt, rt.alloc(), &rows, &[2, 3, 4], wanted)?;
+    Ok(())
+}
+
+#[test]
+fn two_places_have_their_own_ends(rt: HostRuntime) -> Result<(), Fail> {
+    let rows = [("125", 1, 1), ("134", 1, 1), ("116", 2, 1), ("116", 3, -1)];
+    let wanted = "125 at 1: 1; 116 at 2: 1; 125 at 2: -1; 116 at 3: -1; 125 at 3: 1; ";
+    gives(
+        &rt,
+        rt.alloc(),
+        &mut ends(rt.alloc())?,
+        &rows,
+        &[2, 3, 4],
+        wanted,
+    )?;
+    Ok(())
+}
+
+// Rows of the key 1, each with one of the numbers below 300, at time 1.
+fn numbered(rt: &impl Abort, alloc: Global) -> Result<Updates, AllocError> {
+    let mut updates = Updates::empty(alloc);
+    for number in 0..300 {
+        let mut values = Vec::new(alloc);
+        values.push(Datum::Int(1))?;
+        values.push(Datum::Int(number))?;
+        updates.push(Row::from_vec(values), time(rt, 1), 1)?;
+    }
+    Ok(updates)
+}
+
+// That groups that were told nothing yet answer for a key with many rows, and when the least goes.
+fn many_rows(rt: &impl Abort, alloc: Global, op: &mut AnyOp) -> Result<(), AllocError>
+    requires fresh { ⟦<AnyOp as Operator>⟧.stands op.old [] [] }
+    requires upper { ⟦<AnyOp as Operator>⟧.upper op.old ≡ 0 }
+{
+    let mut told = Told::nothing(alloc);
+    let came = numbered(rt, alloc)?;
+    let none = Updates::empty(alloc);
+    tell_any(rt, alloc, op, &mut told, came, none, time(rt, 2))?;
+    let went = updates(rt, alloc, &[("10", 2, -1)], 2, 3)?;
+    let none = Updates::empty(alloc);
+    tell_any(rt, alloc, op, &mut told, went, none, time(rt, 3))?;
+    let answer = written(alloc, &told.out)?;
+    let wanted = "1300448500299 at 1: 1; 1299448501299 at 2: 1; 1300448500299 at 2: -1; ";
+    assert_eq!(rt; answer.as_str(), wanted);
+    Ok(())
+}
+
+#[test]
+fn a_group_of_many_rows_has_its_ends(rt: HostRuntime) -> Result<(), Fail> {
+    let mut op = groups(rt.alloc(), 1)?;
+    many_rows(&rt, rt.alloc(), &mut op)?;
     Ok(())
 }
 
