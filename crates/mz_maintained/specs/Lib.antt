@@ -1,0 +1,2 @@
+pub mod Maintained
+pub mod Tables
