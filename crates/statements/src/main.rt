@@ -1,13 +1,16 @@
-//! The program that shows what statements are, one a line of the input: `print` prints each in its one form, and `explain` says what it
-//! asks for.
-//! Promises nothing of its own; `normalized` of `mz_sql` says what is printed, and `resolve` of `mz_resolve` what is asked for.
-//! Stands on `mz_sql` for the statements, `mz_resolve` for what they ask for, `mz_seq`, which carries it out, and on the kit's `clap` for
-//! the words and `anyhow`.
+//! The program that shows what statements are, one a line of the input: `print` prints each in its one form, `explain` says what it
+//! asks for, and `maintain` how the rows of a query change by what is written.
+//! Promises nothing of its own; `normalized` of `mz_sql` says what is printed, `resolve` of `mz_resolve` what is asked for, and
+//! `Maintained` of `mz_maintained` what changes.
+//! Stands on `mz_sql` for the statements, `mz_resolve` for what they ask for, `mz_seq`, which carries it out, `mz_maintained` for a query
+//! that is maintained, and on the kit's `clap` for the words and `anyhow`.
 #![tactic(auto)]
 
 mod form;
 mod plan_text;
+mod row_text;
 mod session;
+mod upkeep;
 mod view;
 mod words;
 

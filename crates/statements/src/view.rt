@@ -10,7 +10,7 @@ use std::alloc::{AllocError, Global};
 pub enum View {
     /// Its one form.
     Print,
-    /// What it asks for, in a session that carries it out.
+    /// What it asks for, in a session that carries it out, which may maintain a query.
     Explain(Session),
 }
 
@@ -18,6 +18,11 @@ impl View {
     /// What each statement asks for, from the table `kv` on.
     pub fn explanations(alloc: Global) -> Result<View, AllocError> {
         Ok(View::Explain(Session::fresh(alloc)?))
+    }
+
+    /// What each statement asks for, and how the rows of a query change by what is written.
+    pub fn maintenance(alloc: Global) -> Result<View, AllocError> {
+        Ok(View::Explain(Session::maintaining(alloc)?))
     }
 
     /// What is shown of the statement of a line.
